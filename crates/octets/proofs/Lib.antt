@@ -1,0 +1,5 @@
+-- The laws of octets: of numbers, of parts, of questions on a list.
+pub mod Tests
+pub mod Lists
+pub mod Numbers
+pub mod Parts

@@ -1,0 +1,185 @@
+-- Laws of the questions on a list: what a loop keeps, and what the answer says of the elements. Assumes nothing.
+use Prim.Native.Nat.{ℕ, zero, suc, _+_, _<_, _≤_}
+use native.Mathlib.Numerals.{add-one}
+use native.Mathlib.Omega.{arith}
+use native.Mathlib.Decide.{ℕ-discrete}
+use mathlib.Core.Path.{_≡_, refl, sym, ap, _∙_}
+use mathlib.Core.Logic.{_≢_}
+use mathlib.Core.Bool.{Bool, true, false, not, _&&_, _||_, cond, false≢true, true≢false}
+use mathlib.Core.List.{List, [], _∷_, _++_, map}
+use lib.ListN.{length, getD, drop, set, replicate, drop-of-length-le}
+use lib.Seq.{drop-cons, getD-set-same, getD-set-other}
+use borrow.Author.Tests.{not-true, not-false}
+use Rattle.octets.specs.Lists.{bit, every, some, count, place, apart}
+use Rattle.octets.proofs.Tests.{both, false-of, iff-eq, bit-and}
+
+-- ---- a loop over the elements from k on
+
+module _ {A : Type 0} (q : A → Bool) (l : List A) (d : A) (k : ℕ) where
+  pub every-hit : k < length l → q (getD l k d) ≡ false → every q (drop k l) ≡ false
+  every-hit h e = rw (drop-cons l k d h, e)
+
+  pub every-miss : k < length l → q (getD l k d) ≡ true → every q (drop k l) ≡ every q (drop (k + 1) l)
+  every-miss h e = rw (add-one, drop-cons l k d h, e)
+
+  pub some-hit : k < length l → q (getD l k d) ≡ true → some q (drop k l) ≡ true
+  some-hit h e = rw (drop-cons l k d h, e)
+
+  pub some-miss : k < length l → q (getD l k d) ≡ false → some q (drop k l) ≡ some q (drop (k + 1) l)
+  some-miss h e = rw (add-one, drop-cons l k d h, e)
+
+  pub place-hit : k < length l → q (getD l k d) ≡ true → place q (drop k l) ≡ 0
+  place-hit h e = rw (drop-cons l k d h, e)
+
+  pub place-miss : k < length l → q (getD l k d) ≡ false → place q (drop k l) ≡ suc (place q (drop (k + 1) l))
+  place-miss h e = rw (add-one, drop-cons l k d h, e)
+
+  pub count-more : k < length l → count q (drop k l) ≡ bit (q (getD l k d)) + count q (drop (k + 1) l)
+  count-more h = rw (add-one, drop-cons l k d h)
+
+module _ {A : Type 0} (q : A → Bool) (l : List A) (k : ℕ) where
+  pub every-end : length l ≤ k → every q (drop k l) ≡ true
+  every-end h = rw (drop-of-length-le l h)
+
+  pub some-end : length l ≤ k → some q (drop k l) ≡ false
+  some-end h = rw (drop-of-length-le l h)
+
+  pub count-end : length l ≤ k → count q (drop k l) ≡ 0
+  count-end h = rw (drop-of-length-le l h)
+
+-- ---- what the answers say
+
+module _ {A : Type 0} (q : A → Bool) where
+  -- all pass: each one does
+  pub every-at : (l : List A) (d : A) → every q l ≡ true → (i : ℕ) → i < length l → q (getD l i d) ≡ true
+  every-at [] d e i h = absurd (omega arith)
+  every-at (x ∷ xs) d e zero h = both (q x) (every q xs) e .0
+  every-at (x ∷ xs) d e (suc i) h = every-at xs d (both (q x) (every q xs) e .1) i (omega arith)
+
+  pub every-of : (l : List A) (d : A) → ((i : ℕ) → i < length l → q (getD l i d) ≡ true) → every q l ≡ true
+  every-of [] d f = refl
+  every-of (x ∷ xs) d f = rw (f 0 (omega arith), every-of xs d (λ i h. f (suc i) (omega arith)))
+
+  pub every-set : (l : List A) (i : ℕ) (a d : A) → every q l ≡ true → q a ≡ true → every q (set l i a) ≡ true
+  every-set [] i a d e h = refl
+  every-set (x ∷ xs) zero a d e h = rw (h, both (q x) (every q xs) e .1)
+  every-set (x ∷ xs) (suc i) a d e h = rw (both (q x) (every q xs) e .0, every-set xs i a d (both (q x) (every q xs) e .1) h)
+
+  -- some passes: the first is inside, passes, and none before it does
+  pub place-lt : (l : List A) → some q l ≡ true → place q l < length l
+  place-lt [] e = absurd (false≢true e)
+  place-lt (x ∷ xs) e =
+      (elim (q x) as (λ (b : Bool). (b || some q xs) ≡ true → cond b 0 (suc (place q xs)) < suc (length xs))
+      [ true ↦ λ e′. omega arith | false ↦ λ e′. omega (arith, place-lt xs e′) ])
+      e
+
+  pub place-ok : (l : List A) (d : A) → some q l ≡ true → q (getD l (place q l) d) ≡ true
+  place-ok [] d e = absurd (false≢true e)
+  place-ok (x ∷ xs) d e = go (q x) refl (place-ok xs d)
+    where
+      go : (b : Bool) → q x ≡ b → (some q xs ≡ true → q (getD xs (place q xs) d) ≡ true) → q (getD (x ∷ xs) (place q (x ∷ xs)) d) ≡ true
+      go true p ih = rw p p
+      go false p ih = rw p (ih (rw p at e))
+
+  pub place-first : (l : List A) (d : A) (j : ℕ) → j < place q l → q (getD l j d) ≡ false
+  place-first [] d j h = absurd (omega arith)
+  place-first (x ∷ xs) d j h = go (q x) refl j h (place-first xs d)
+    where
+      go : (b : Bool) → q x ≡ b → (j : ℕ) → j < cond b 0 (suc (place q xs)) → ((i : ℕ) → i < place q xs → q (getD xs i d) ≡ false) → q (getD (x ∷ xs) j d) ≡ false
+      go true p j h ih = absurd (omega arith)
+      go false p zero h ih = p
+      go false p (suc j) h ih = ih j (omega arith)
+
+  pub some-at : (l : List A) (d : A) (j : ℕ) → q d ≡ false → q (getD l j d) ≡ true → some q l ≡ true
+  some-at [] d j z e = absurd (true≢false (sym e ∙ z))
+  some-at (x ∷ xs) d zero z e = rw e
+  some-at (x ∷ xs) d (suc j) z e =
+      elim (q x) as (λ (b : Bool). (b || some q xs) ≡ true) [ true ↦ refl | false ↦ some-at xs d j z e ]
+
+  pub none-at : (l : List A) (d : A) → q d ≡ false → some q l ≡ false → (j : ℕ) → q (getD l j d) ≡ false
+  none-at l d z e j = false-of _ (λ h. false≢true (sym e ∙ some-at l d j z h))
+
+  pub none-of : (l : List A) (d : A) → ((j : ℕ) → q (getD l j d) ≡ false) → some q l ≡ false
+  none-of [] d f = refl
+  none-of (x ∷ xs) d f = rw (f 0, none-of xs d (λ j. f (suc j)))
+
+  -- none passes: the first place is the end, where the default stands
+  pub place-none : (l : List A) (d : A) → some q l ≡ false → getD l (place q l) d ≡ d
+  place-none [] d e = refl
+  place-none (x ∷ xs) d e =
+      (elim (q x) as (λ (b : Bool). (b || some q xs) ≡ false → getD (x ∷ xs) (cond b 0 (suc (place q xs))) d ≡ d)
+      [ true ↦ λ e′. absurd (true≢false e′) | false ↦ λ e′. place-none xs d e′ ])
+      e
+
+  -- where at most one place passes, it is the first
+  pub place-only : (l : List A) (d : A) (j : ℕ) → q d ≡ false → ((i k : ℕ) → i < k → q (getD l i d) ≡ true → q (getD l k d) ≡ true → ⊥)
+      → q (getD l j d) ≡ true → place q l ≡ j
+  place-only [] d j z one e = absurd (true≢false (sym e ∙ z))
+  place-only (x ∷ xs) d j z one e = go (q x) refl j e (λ i h. place-only xs d i z (λ a b c. one (suc a) (suc b) (omega arith)) h)
+    where
+      go : (b : Bool) → q x ≡ b → (j : ℕ) → q (getD (x ∷ xs) j d) ≡ true → ((i : ℕ) → q (getD xs i d) ≡ true → place q xs ≡ i) → cond b 0 (suc (place q xs)) ≡ j
+      go true p zero e ih = refl
+      go true p (suc j) e ih = absurd (one 0 (suc j) (omega arith) p e)
+      go false p zero e ih = absurd (true≢false (sym e ∙ p))
+      go false p (suc j) e ih = ap suc (ih j e)
+
+-- ---- counts
+
+module _ {A : Type 0} (q : A → Bool) where
+  pub count-set : (l : List A) (i : ℕ) (a d : A) → i < length l → count q (set l i a) + bit (q (getD l i d)) ≡ count q l + bit (q a)
+  count-set [] i a d h = omega arith
+  count-set (x ∷ xs) zero a d h = omega arith
+  count-set (x ∷ xs) (suc i) a d h = omega (arith, count-set xs i a d (omega arith))
+
+  pub count-replicate : (n : ℕ) (a : A) → q a ≡ false → count q (replicate n a) ≡ 0
+  count-replicate zero a e = refl
+  count-replicate (suc n) a e = rw (e, count-replicate n a e)
+
+  pub count-append : (l m : List A) → count q (l ++ m) ≡ count q l + count q m
+  count-append [] m = omega arith
+  count-append (x ∷ xs) m = omega (arith, count-append xs m)
+
+  pub count-and : (p : A → Bool) (l : List A) → count (λ (x : A). q x && p x) l ≤ count q l
+  count-and p [] = omega arith
+  count-and p (x ∷ xs) = omega (arith, bit-and (q x) (p x), count-and p xs)
+
+pub count-ext : {A : Type 0} (p q : A → Bool) → ((x : A) → p x ≡ q x) → (l : List A) → count p l ≡ count q l
+count-ext p q f [] = refl
+count-ext p q f (x ∷ xs) = omega (arith, ap bit (f x), count-ext p q f xs)
+
+pub count-map : {A B : Type 0} (q : B → Bool) (f : A → B) (l : List A) → count q (map f l) ≡ count (λ (x : A). q (f x)) l
+count-map q f [] = refl
+count-map q f (x ∷ xs) = omega (arith, count-map q f xs)
+
+-- ---- no two clash
+
+module _ {A : Type 0} (clash : A → A → Bool) (d : A) where
+  -- any two places are apart
+  pub apart-at : (l : List A) → ((x : A) → clash x d ≡ false) → apart clash l ≡ true → (i j : ℕ) → i < j → j < length l → clash (getD l i d) (getD l j d) ≡ false
+  apart-at [] z e i j h k = absurd (omega arith)
+  apart-at (x ∷ xs) z e i zero h k = absurd (omega arith)
+  apart-at (x ∷ xs) z e zero (suc j) h k =
+      none-at (clash x) xs d (z x) (not-true _ (both (not (some (clash x) xs)) (apart clash xs) e .0)) j
+  apart-at (x ∷ xs) z e (suc i) (suc j) h k =
+      apart-at xs z (both (not (some (clash x) xs)) (apart clash xs) e .1) i j (omega arith) (omega arith)
+
+  pub apart-of : (l : List A) → ((x : A) → clash x d ≡ false) → ((i j : ℕ) → i < j → j < length l → clash (getD l i d) (getD l j d) ≡ false) → apart clash l ≡ true
+  apart-of [] z f = refl
+  apart-of (x ∷ xs) z f =
+      rw (none-in xs (λ j h. f 0 (suc j) (omega arith) (omega arith)), apart-of xs z (λ i j h k. f (suc i) (suc j) (omega arith) (omega arith)))
+    where
+      none-in : (ys : List A) → ((j : ℕ) → j < length ys → clash x (getD ys j d) ≡ false) → some (clash x) ys ≡ false
+      none-in [] g = refl
+      none-in (y ∷ ys) g = rw (g 0 (omega arith), none-in ys (λ j h. g (suc j) (omega arith)))
+
+  -- a store keeps the elements apart where what is stored is apart from each of the others
+  pub apart-set : (l : List A) (k : ℕ) (t : A) → ((x : A) → clash x d ≡ false) → k < length l → apart clash l ≡ true
+      → ((j : ℕ) → j ≢ k → j < length l → (clash t (getD l j d) ≡ false) × (clash (getD l j d) t ≡ false))
+      → length (set l k t) ≡ length l → apart clash (set l k t) ≡ true
+  apart-set l k t z b e f s = apart-of (set l k t) z (λ i j h m. go i j h (rw s at m) (ℕ-discrete i k) (ℕ-discrete j k))
+    where
+      go : (i j : ℕ) → i < j → j < length l → Dec (i ≡ k) → Dec (j ≡ k) → clash (getD (set l k t) i d) (getD (set l k t) j d) ≡ false
+      go i j h m (yes p) (yes q) = absurd (omega arith)
+      go i j h m (yes p) (no q) = rw (p, getD-set-same l k t d b, getD-set-other l k j t d q) (f j q m .0)
+      go i j h m (no p) (yes q) = rw (q, getD-set-same l k t d b, getD-set-other l k i t d p) (f i p (omega arith) .1)
+      go i j h m (no p) (no q) = rw (getD-set-other l k i t d p, getD-set-other l k j t d q) (apart-at l z e i j h m)

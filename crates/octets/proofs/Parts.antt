@@ -1,0 +1,189 @@
+-- Laws of parts, splices, zeros and equality. Assumes nothing.
+use mathlib.Core.Path.{_≡_, refl, sym, ap, _∙_}
+use mathlib.Core.List.{List, [], _∷_, _++_, append-assoc, append-nil}
+use mathlib.Core.Bool.{Bool, true, false, _&&_, false≢true, and-false}
+use Prim.Native.Nat.{ℕ, zero, suc, _+_, _-_, _≤_, _<_, min}
+use native.Mathlib.Nat.{min-eq-left, min-eq-right}
+use native.Mathlib.Numerals.{add-one}
+use native.Mathlib.Omega.{arith}
+use lib.Dec.{eqb, leb}
+use lib.ListN.{length, getD, take, drop, set, replicate, drop-of-length-le, length-append, length-take, length-drop, length-replicate, take-append-drop}
+use lib.Seq.{drop-cons, take-all, take-at, drop-at, drop-append-le, take-append-le, drop-append-add, drop-drop, take-suc, take-suc-set, drop-set-lt}
+use borrow.Author.Tests.{eq-eqb, ne-eqb, eqb-true, leb-true, leb-false}
+use Rattle.octets.specs.Parts.{part, splice, laid, blank, zeros, same}
+
+-- ---- loops that look at each byte
+
+module _ (s : List ℕ) (i : ℕ) where
+  zeros-at : i < length s → zeros (drop i s) ≡ (eqb (getD s i 0) 0 && zeros (drop (i + 1) s))
+  unfolding zeros
+  zeros-at h = rw (add-one, drop-cons s i 0)
+
+  pub zeros-hit : i < length s → (getD s i 0 ≡ 0 → ⊥) → zeros (drop i s) ≡ false
+  zeros-hit h n = zeros-at h ∙ rw (ne-eqb (getD s i 0) 0 n)
+
+  pub zeros-miss : i < length s → getD s i 0 ≡ 0 → zeros (drop i s) ≡ zeros (drop (i + 1) s)
+  zeros-miss h e = zeros-at h ∙ rw (eq-eqb (getD s i 0) 0 e)
+
+  pub zeros-end : length s ≤ i → zeros (drop i s) ≡ true
+  unfolding zeros
+  zeros-end h = rw (drop-of-length-le s h)
+
+module _ (s t : List ℕ) (i : ℕ) where
+  same-at : i < length s → i < length t → same (drop i s) (drop i t) ≡ (eqb (getD s i 0) (getD t i 0) && same (drop (i + 1) s) (drop (i + 1) t))
+  unfolding same
+  same-at h k = rw (add-one, drop-cons s i 0, drop-cons t i 0)
+
+  pub same-hit : i < length s → length s ≡ length t → (getD s i 0 ≡ getD t i 0 → ⊥) → same (drop i s) (drop i t) ≡ false
+  same-hit h k n = same-at h (omega arith) ∙ rw (ne-eqb (getD s i 0) (getD t i 0) n)
+
+  pub same-miss : i < length s → length s ≡ length t → getD s i 0 ≡ getD t i 0 → same (drop i s) (drop i t) ≡ same (drop (i + 1) s) (drop (i + 1) t)
+  same-miss h k e = same-at h (omega arith) ∙ rw (eq-eqb (getD s i 0) (getD t i 0) e)
+
+  pub same-end : length s ≤ i → length s ≡ length t → same (drop i s) (drop i t) ≡ true
+  unfolding same
+  same-end h k = let l : length t ≤ i = omega arith in rw (drop-of-length-le s h, drop-of-length-le t l)
+
+-- ---- what the tests say
+
+pub same-length : (s t : List ℕ) → (length s ≡ length t → ⊥) → same s t ≡ false
+unfolding same
+same-length [] [] h = absurd (h refl)
+same-length [] (y ∷ ys) h = refl
+same-length (x ∷ xs) [] h = refl
+same-length (x ∷ xs) (y ∷ ys) h = simp (same-length xs ys (λ e. h (ap suc e)), and-false)
+
+pub same-eq : (s t : List ℕ) → same s t ≡ true → s ≡ t
+unfolding same
+same-eq [] [] e = refl
+same-eq [] (y ∷ ys) e = absurd (false≢true e)
+same-eq (x ∷ xs) [] e = absurd (false≢true e)
+same-eq (x ∷ xs) (y ∷ ys) e = both (eqb x y) refl e (same-eq xs ys)
+  where
+    both : (b : Bool) → eqb x y ≡ b → (b && same xs ys) ≡ true → (same xs ys ≡ true → xs ≡ ys) → (x ∷ xs) ≡ (y ∷ ys)
+    both true p q more = let a : x ≡ y = eqb-true x y p in let b : xs ≡ ys = more q in cc
+    both false p q more = absurd (false≢true q)
+
+pub same-refl : (s : List ℕ) → same s s ≡ true
+unfolding same
+same-refl [] = refl
+same-refl (x ∷ xs) = rw (eq-eqb x x refl) (same-refl xs)
+
+-- all zeros says which list it is
+pub zeros-eq : (s : List ℕ) → zeros s ≡ true → s ≡ blank (length s)
+unfolding zeros blank
+zeros-eq [] e = refl
+zeros-eq (x ∷ xs) e = both (eqb x 0) refl e (zeros-eq xs)
+  where
+    both : (b : Bool) → eqb x 0 ≡ b → (b && zeros xs) ≡ true → (zeros xs ≡ true → xs ≡ replicate (length xs) 0) → (x ∷ xs) ≡ (0 ∷ replicate (length xs) 0)
+    both true p q more = let a : x ≡ 0 = eqb-true x 0 p in let b : xs ≡ replicate (length xs) 0 = more q in cc
+    both false p q more = absurd (false≢true q)
+
+pub zeros-blank : (n : ℕ) → zeros (blank n) ≡ true
+unfolding zeros blank
+zeros-blank zero = refl
+zeros-blank (suc n) = zeros-blank n
+
+pub length-blank : (n : ℕ) → length (blank n) ≡ n
+unfolding blank
+length-blank n = length-replicate n 0
+
+-- ---- a part, a splice
+
+pub part-length : (l : List ℕ) (a n : ℕ) → a + n ≤ length l → length (part l a n) ≡ n
+part-length l a n h = simp (length-take, length-drop) (omega arith)
+
+pub splice-length : (l : List ℕ) (a n : ℕ) (xs : List ℕ) → length xs ≡ n → a + n ≤ length l → length (splice l a n xs) ≡ length l
+splice-length l a n xs e h = simp (length-append, length-take, length-drop) (omega arith)
+
+part-front : (p y : List ℕ) (b m : ℕ) → b + m ≤ length p → part (p ++ y) b m ≡ part p b m
+part-front p y b m h =
+    let h1 : b ≤ length p = omega arith in
+    let h2 : m ≤ length (drop b p) = simp length-drop (omega arith) in
+    rw (drop-append-le b p y h1) (take-append-le m (drop b p) y h2)
+
+drop-back : (p y : List ℕ) (c b : ℕ) → length p ≡ c → c ≤ b → drop b (p ++ y) ≡ drop (b - c) y
+drop-back p y c b e h =
+    let k : b ≡ length p + (b - c) = omega arith in
+    rw k (drop-append-add p y (b - c) ∙ rw (← k))
+
+module _ (l : List ℕ) (a n : ℕ) (xs : List ℕ) (sized : length xs ≡ n) (within : a + n ≤ length l) where
+  -- read inside its place
+  pub part-same : part (splice l a n xs) a n ≡ xs
+  part-same =
+      let e : length (take a l) ≡ a = simp length-take (omega arith) in
+      rw (drop-at (take a l) (xs ++ drop n (drop a l)) a e) (take-at xs (drop n (drop a l)) n sized)
+
+  -- read outside its place
+  pub part-before : (b m : ℕ) → b + m ≤ a → part (splice l a n xs) b m ≡ part l b m
+  part-before b m h =
+      let k : b + m ≤ length (take a l) = simp length-take (omega arith) in
+      part-front (take a l) (xs ++ drop n (drop a l)) b m k
+      ∙ sym (part-front (take a l) (drop a l) b m k)
+      ∙ rw (take-append-drop a l)
+
+  pub part-behind : (b m : ℕ) → a + n ≤ b → part (splice l a n xs) b m ≡ part l b m
+  part-behind b m h =
+      let e : length (take a l ++ xs) ≡ a + n = simp (length-append, length-take) (omega arith) in
+      let k : a + n + (b - (a + n)) ≡ b = omega arith in
+      rw (← append-assoc (take a l) xs (drop n (drop a l)), drop-back (take a l ++ xs) (drop n (drop a l)) (a + n) b e h, drop-drop n a l, drop-drop (b - (a + n)) (a + n) l, k)
+
+-- ---- what is laid over a part
+
+pub length-laid : (xs s : List ℕ) → length (laid xs s) ≡ length s
+unfolding laid
+length-laid xs s = simp (length-append, length-take, length-drop) (omega arith)
+
+pub laid-all : (xs s : List ℕ) → length xs ≡ length s → laid xs s ≡ xs
+unfolding laid
+laid-all xs s e =
+    let h : length s ≤ length xs = omega arith in
+    let k : length xs ≤ length s = omega arith in
+    rw (take-all (length s) xs k, drop-of-length-le s h) (append-nil xs)
+
+-- laid over a part that is as long
+pub laid-part : (l : List ℕ) (a n : ℕ) (xs : List ℕ) → length xs ≡ n → a + n ≤ length l → laid xs (part l a n) ≡ xs
+laid-part l a n xs e h = laid-all xs (part l a n) (e ∙ sym (part-length l a n h))
+
+-- ---- loops that write from the front
+
+-- the first i elements are those of xs, the rest as they were
+pub front-more : (xs d e : List ℕ) (i v : ℕ) → i < length e → i < length xs → take i e ≡ take i xs → drop i e ≡ drop i d → v ≡ getD xs i 0
+    → (take (i + 1) (set e i v) ≡ take (i + 1) xs) × (drop (i + 1) (set e i v) ≡ drop (i + 1) d)
+front-more xs d e i v h k f b w = (
+  rw (add-one, take-suc-set e i v h, take-suc xs i 0 k, w) (ap (λ (t : List ℕ). t ++ (getD xs i 0 ∷ [])) f),
+  rw (add-one, drop-set-lt (suc i) e i v (omega arith)) (tail i e d b),
+)
+  where
+    tail : (i : ℕ) (e d : List ℕ) → drop i e ≡ drop i d → drop (suc i) e ≡ drop (suc i) d
+    tail i e d b = let s : suc i ≡ i + 1 = omega arith in rw s (sym (drop-drop 1 i e) ∙ ap (drop 1) b ∙ drop-drop 1 i d)
+
+-- all is written that there is room for
+pub front-laid : (xs d e : List ℕ) (n : ℕ) → n ≡ min (length xs) (length d) → take n e ≡ take n xs → drop n e ≡ drop n d → e ≡ laid xs d
+unfolding laid
+front-laid xs d e n h f b =
+    sym (take-append-drop n e) ∙ rw (f, b) (ends (leb (length xs) (length d)) refl)
+  where
+    ends : (t : Bool) → leb (length xs) (length d) ≡ t → take n xs ++ drop n d ≡ take (length d) xs ++ drop (length xs) d
+    ends true p =
+        let le = leb-true (length xs) (length d) p in
+        let k : n ≡ length xs = h ∙ min-eq-left le in
+        rw (k, take-all (length xs) xs (omega arith), take-all (length d) xs le)
+    ends false p =
+        let lt = leb-false (length xs) (length d) p in
+        let k : n ≡ length d = h ∙ min-eq-right (omega arith) in
+        let z : length d ≤ length xs = omega arith in
+        let w : length d ≤ length d = omega arith in
+        rw (k, drop-of-length-le d z, drop-of-length-le d w)
+
+-- the first i bytes are zeros
+pub blank-more : (e : List ℕ) (i : ℕ) → i < length e → take i e ≡ blank i → take (i + 1) (set e i 0) ≡ blank (i + 1)
+unfolding blank
+blank-more e i h f = rw (add-one, take-suc-set e i 0 h, f) (last i)
+  where
+    last : (i : ℕ) → _++_ {A = ℕ} (replicate i 0) (0 ∷ []) ≡ 0 ∷ replicate i 0
+    last zero = refl
+    last (suc i) = ap (λ (t : List ℕ). 0 ∷ t) (last i)
+
+pub blank-all : (e : List ℕ) (i n : ℕ) → length e ≡ n → i ≡ n → take i e ≡ blank i → e ≡ blank n
+blank-all e i n l h f = sym (take-all i e (omega arith)) ∙ f ∙ ap blank h

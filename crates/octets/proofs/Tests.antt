@@ -1,0 +1,37 @@
+-- Laws of Bool tests. Assumes nothing.
+use Prim.Native.Nat.{ℕ, _≤_}
+use native.Mathlib.Omega.{arith}
+use mathlib.Core.Path.{_≡_, refl, sym}
+use mathlib.Core.Bool.{Bool, true, false, not, _&&_, _||_, false≢true}
+use Rattle.octets.specs.Lists.{bit}
+
+pub both : (a b : Bool) → (a && b) ≡ true → (a ≡ true) × (b ≡ true)
+both true b e = (refl, e)
+both false b e = absurd (false≢true e)
+
+pub and-l : (a b : Bool) → (a && b) ≡ true → a ≡ true
+and-l a b e = both a b e .0
+
+pub and-r : (a b : Bool) → (a && b) ≡ true → b ≡ true
+and-r a b e = both a b e .1
+
+pub both-true : (a b : Bool) → a ≡ true → b ≡ true → (a && b) ≡ true
+both-true a b e f = rw (e, f)
+
+pub false-of : (b : Bool) → (b ≡ true → ⊥) → b ≡ false
+false-of true f = absurd (f refl)
+false-of false f = refl
+
+-- two tests that follow from each other are equal
+pub iff-eq : (a b : Bool) → (a ≡ true → b ≡ true) → (b ≡ true → a ≡ true) → a ≡ b
+iff-eq true b f g = sym (f refl)
+iff-eq false b f g = sym (false-of b (λ e. false≢true (g e)))
+
+pub bit-one : (b : Bool) → bit b ≡ 1 → b ≡ true
+bit-one true e = refl
+bit-one false e = absurd (omega arith)
+
+pub bit-and : (a b : Bool) → bit (a && b) ≤ bit a
+bit-and true true = omega arith
+bit-and true false = omega arith
+bit-and false b = omega arith

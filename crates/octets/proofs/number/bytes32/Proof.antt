@@ -1,0 +1,12 @@
+use Rattle.octets.proofs.number.bytes32.Statement.{statement}
+use Rattle.octets.specs.Numbers.{digits}
+use borrow.Author.Needs.{needs}
+use mathlib.Core.Path.{refl}
+use Rattle.octets.proofs.number.bytes32.Tie as tie
+
+returns : tie.Need-returns
+unfolding digits
+returns c = refl
+
+pub bytes32-spec : {M : Type 1} → statement M
+bytes32-spec = tie.close (tie.spec (search needs) (search needs) (search needs) (search needs) returns)

@@ -1,0 +1,63 @@
+// Parts of a slice: whether one is all zeros, whether two are equal, and filling one.
+ghost use mathlib.Core.Path.{_≡_};
+ghost use Prim.Native.Nat.{_≤_, _<_};
+ghost use lib.ListN.{length};
+ghost use Prim.Native.Nat.{min};
+ghost use Rattle.octets.specs.Parts.{zeros, same, laid, blank};
+
+pub fn is_zero(s: &[u8]) -> bool
+    ensures { λ r. ⌜ r ≡ zeros (now (s .entry)) ⌝ }
+{
+    let mut i = 0;
+    while i < s.len() {
+        if s[i] != 0 {
+            return false;
+        }
+        i += 1;
+    }
+    true
+}
+
+pub fn same(a: &[u8], b: &[u8]) -> bool
+    ensures { λ r. ⌜ r ≡ same (now (a .entry)) (now (b .entry)) ⌝ }
+{
+    if a.len() != b.len() {
+        return false;
+    }
+    let mut i = 0;
+    while i < a.len() {
+        if a[i] != b[i] {
+            return false;
+        }
+        i += 1;
+    }
+    true
+}
+
+fn shorter(a: usize, b: usize) -> usize
+    ensures { λ r. ⌜ r ≡ min a b ⌝ }
+{
+    if a < b { a } else { b }
+}
+
+// Copies s over the front of d, as much of it as there is room for.
+pub fn copy(d: &mut [u8], s: &[u8])
+    ensures { λ _. ⌜ now (d .exit) ≡ laid (now (s .entry)) (now (d .entry)) ⌝ }
+{
+    let n = shorter(s.len(), d.len());
+    let mut i = 0;
+    while i < n {
+        d[i] = s[i];
+        i += 1;
+    }
+}
+
+pub fn clear(s: &mut [u8])
+    ensures { λ _. ⌜ now (s .exit) ≡ blank (length (now (s .entry))) ⌝ }
+{
+    let mut i = 0;
+    while i < s.len() {
+        s[i] = 0;
+        i += 1;
+    }
+}
