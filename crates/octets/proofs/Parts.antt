@@ -8,9 +8,9 @@ use native.Mathlib.Numerals.{add-one}
 use native.Mathlib.Omega.{arith}
 use lib.Dec.{eqb, leb}
 use lib.ListN.{length, getD, take, drop, set, replicate, drop-of-length-le, length-append, length-take, length-drop, length-replicate, take-append-drop}
-use lib.Seq.{drop-cons, take-all, take-at, drop-at, drop-append-le, take-append-le, drop-append-add, drop-drop, take-suc, take-suc-set, drop-set-lt}
+use lib.Seq.{drop-cons, take-all, take-at, drop-at, drop-append-le, take-append-le, drop-append-add, drop-drop, take-suc, take-suc-set, drop-nil, take-nil, drop-set-lt}
 use borrow.Author.Tests.{eq-eqb, ne-eqb, eqb-true, leb-true, leb-false}
-use Rattle.octets.specs.Parts.{part, splice, laid, blank, zeros, same}
+use Rattle.octets.specs.Parts.{part, splice, laid, put, blank, zeros, same}
 
 -- ---- loops that look at each byte
 
@@ -187,3 +187,53 @@ blank-more e i h f = rw (add-one, take-suc-set e i 0 h, f) (last i)
 
 pub blank-all : (e : List ℕ) (i n : ℕ) → length e ≡ n → i ≡ n → take i e ≡ blank i → e ≡ blank n
 blank-all e i n l h f = sym (take-all i e (omega arith)) ∙ f ∙ ap blank h
+
+-- ---- what is put into a list
+
+pub length-put : (l : List ℕ) (a : ℕ) (xs : List ℕ) → length (put l a xs) ≡ length l
+unfolding put
+length-put l a xs = simp (length-append, length-laid, length-take, length-drop) (omega arith)
+
+-- nothing is put behind the end
+pub put-end : (l : List ℕ) (a : ℕ) (xs : List ℕ) → length l ≤ a → put l a xs ≡ l
+unfolding put laid
+put-end l a xs h = rw (take-all a l h, drop-of-length-le l h) (ap (λ (t : List ℕ). l ++ t) (drop-nil (length xs)) ∙ append-nil l)
+
+-- where there is room it is a splice
+pub put-splice : (l : List ℕ) (a : ℕ) (xs : List ℕ) → a + length xs ≤ length l → put l a xs ≡ splice l a (length xs) xs
+unfolding put laid
+put-splice l a xs h =
+    let k : length xs ≤ length (drop a l) = simp length-drop (omega arith) in
+    rw (take-all (length (drop a l)) xs k)
+
+module _ (l : List ℕ) (a n : ℕ) (xs : List ℕ) (sized : length xs ≡ n) (within : a + n ≤ length l) where
+  is-splice : put l a xs ≡ splice l a n xs
+  is-splice = put-splice l a xs (rw sized within) ∙ ap (λ (m : ℕ). splice l a m xs) sized
+
+  pub put-same : part (put l a xs) a n ≡ xs
+  put-same = rw is-splice (part-same l a n xs sized within)
+
+  pub put-before : (b m : ℕ) → b + m ≤ a → part (put l a xs) b m ≡ part l b m
+  put-before b m h = rw is-splice (part-before l a n xs sized within b m h)
+
+  pub put-behind : (b m : ℕ) → a + n ≤ b → part (put l a xs) b m ≡ part l b m
+  put-behind b m h = rw is-splice (part-behind l a n xs sized within b m h)
+
+-- ---- the parts that `cut` and `put` lend
+
+pub part-none : (s : List ℕ) (a n : ℕ) → length s ≤ a → part s (length s) (length s - length s) ≡ part s a n
+part-none s a n h =
+    let w : length s ≤ length s = omega arith in
+    rw (drop-of-length-le s h, drop-of-length-le s w) (take-nil (length s - length s) ∙ sym (take-nil n))
+
+pub part-rest : (s : List ℕ) (a n : ℕ) → length s - a ≤ n → part s a (length s - a) ≡ part s a n
+part-rest s a n h =
+    let p : length (drop a s) ≤ length s - a = simp length-drop (omega arith) in
+    let q : length (drop a s) ≤ n = simp length-drop (omega arith) in
+    take-all (length s - a) (drop a s) p ∙ sym (take-all n (drop a s) q)
+
+pub put-rest : (l : List ℕ) (a : ℕ) (xs y : List ℕ) → y ≡ laid xs (part l a (length l - a)) → splice l a (length l - a) y ≡ put l a xs
+unfolding put
+put-rest l a xs y e =
+    let p : length (drop a l) ≤ length l - a = simp length-drop (omega arith) in
+    rw (e, take-all (length l - a) (drop a l) p, drop-of-length-le (drop a l) p, append-nil)

@@ -17,6 +17,10 @@ splice l a n xs = take a l ++ (xs ++ drop n (drop a l))
 unfoldable pub laid : List ℕ → List ℕ → List ℕ
 laid xs s = take (length s) xs ++ drop (length xs) s
 
+-- l with xs laid over it from index a on
+unfoldable pub put : List ℕ → ℕ → List ℕ → List ℕ
+put l a xs = take a l ++ laid xs (drop a l)
+
 -- n zeros
 unfoldable pub blank : ℕ → List ℕ
 blank n = replicate n 0

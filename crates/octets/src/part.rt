@@ -3,7 +3,21 @@ ghost use mathlib.Core.Path.{_≡_};
 ghost use Prim.Native.Nat.{_≤_, _<_};
 ghost use lib.ListN.{length};
 ghost use Prim.Native.Nat.{min};
-ghost use Rattle.octets.specs.Parts.{zeros, same, laid, blank};
+ghost use Rattle.octets.specs.Parts.{part, zeros, same, laid, put, blank};
+
+// The n bytes of s from index a on, or as many as there are.
+pub fn cut(s: &[u8], a: usize, n: usize) -> &[u8]
+    ensures { λ r. ⌜ now r ≡ part (now (s .entry)) a n ⌝ }
+{
+    let end = s.len();
+    if end <= a {
+        return &s[end..];
+    }
+    if end - a <= n {
+        return &s[a..];
+    }
+    &s[a..a + n]
+}
 
 pub fn is_zero(s: &[u8]) -> bool
     ensures { λ r. ⌜ r ≡ zeros (now (s .entry)) ⌝ }
@@ -49,6 +63,15 @@ pub fn copy(d: &mut [u8], s: &[u8])
     while i < n {
         d[i] = s[i];
         i += 1;
+    }
+}
+
+// Copies xs over s from index a on, as much of it as there is room for.
+pub fn put(s: &mut [u8], a: usize, xs: &[u8])
+    ensures { λ _. ⌜ now (s .exit) ≡ put (now (s .entry)) a (now (xs .entry)) ⌝ }
+{
+    if a < s.len() {
+        copy(&mut s[a..], xs);
     }
 }
 
