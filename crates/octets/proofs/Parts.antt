@@ -219,7 +219,15 @@ module _ (l : List ℕ) (a n : ℕ) (xs : List ℕ) (sized : length xs ≡ n) (w
   pub put-behind : (b m : ℕ) → a + n ≤ b → part (put l a xs) b m ≡ part l b m
   put-behind b m h = rw is-splice (part-behind l a n xs sized within b m h)
 
--- ---- the parts that `cut` and `put` lend
+-- ---- the parts that `from`, `cut` and `put` lend
+
+pub drop-all : (s : List ℕ) (a : ℕ) → a ≤ length s → part s a (length s - a) ≡ drop a s
+drop-all s a h = take-all (length s - a) (drop a s) (simp length-drop (omega arith))
+
+pub drop-none : (s : List ℕ) (a : ℕ) → length s ≤ a → part s (length s) (length s - length s) ≡ drop a s
+drop-none s a h =
+    let w : length s ≤ length s = omega arith in
+    rw (drop-of-length-le s h, drop-of-length-le s w) (take-nil (length s - length s))
 
 pub part-none : (s : List ℕ) (a n : ℕ) → length s ≤ a → part s (length s) (length s - length s) ≡ part s a n
 part-none s a n h =

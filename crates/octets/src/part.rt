@@ -1,9 +1,20 @@
 // Parts of a slice: whether one is all zeros, whether two are equal, and filling one.
 ghost use mathlib.Core.Path.{_≡_};
 ghost use Prim.Native.Nat.{_≤_, _<_};
-ghost use lib.ListN.{length};
+ghost use lib.ListN.{length, drop};
 ghost use Prim.Native.Nat.{min};
 ghost use Rattle.octets.specs.Parts.{part, zeros, same, laid, put, blank};
+
+// The bytes of s from index a on.
+pub fn from(s: &[u8], a: usize) -> &[u8]
+    ensures { λ r. ⌜ now r ≡ drop a (now (s .entry)) ⌝ }
+{
+    let end = s.len();
+    if end <= a {
+        return &s[end..];
+    }
+    &s[a..]
+}
 
 // The n bytes of s from index a on, or as many as there are.
 pub fn cut(s: &[u8], a: usize, n: usize) -> &[u8]
