@@ -47,6 +47,18 @@ module _ {A : Type 0} (q : A → Bool) (l : List A) (k : ℕ) where
   pub count-end : length l ≤ k → count q (drop k l) ≡ 0
   count-end h = rw (drop-of-length-le l h)
 
+-- ---- a loop over the pairs of elements
+
+module _ {A : Type 0} (clash : A → A → Bool) (l : List A) (d : A) (i : ℕ) where
+  pub apart-hit : i < length l → some (clash (getD l i d)) (drop (i + 1) l) ≡ true → apart clash (drop i l) ≡ false
+  apart-hit h e = let f = rw add-one at e in rw (drop-cons l i d h, f)
+
+  pub apart-miss : i < length l → some (clash (getD l i d)) (drop (i + 1) l) ≡ false → apart clash (drop i l) ≡ apart clash (drop (i + 1) l)
+  apart-miss h e = let f = rw add-one at e in rw (add-one, drop-cons l i d h, f)
+
+pub apart-end : {A : Type 0} (clash : A → A → Bool) (l : List A) (i : ℕ) → length l ≤ i → apart clash (drop i l) ≡ true
+apart-end clash l i h = rw (drop-of-length-le l h)
+
 -- ---- what the answers say
 
 module _ {A : Type 0} (q : A → Bool) where

@@ -10,6 +10,7 @@ use lib.Dec.{eqb, leb}
 use lib.ListN.{length, getD, take, drop, set, replicate, drop-of-length-le, length-append, length-take, length-drop, length-replicate, take-append-drop}
 use lib.Seq.{drop-cons, take-all, take-at, drop-at, drop-append-le, take-append-le, drop-append-add, drop-drop, take-suc, take-suc-set, drop-nil, take-nil, drop-set-lt}
 use borrow.Author.Tests.{eq-eqb, ne-eqb, eqb-true, leb-true, leb-false}
+use Rattle.octets.proofs.Tests.{both}
 use Rattle.octets.specs.Parts.{part, splice, laid, put, blank, zeros, same}
 
 -- ---- loops that look at each byte
@@ -78,6 +79,15 @@ zeros-eq (x ∷ xs) e = both (eqb x 0) refl e (zeros-eq xs)
     both : (b : Bool) → eqb x 0 ≡ b → (b && zeros xs) ≡ true → (zeros xs ≡ true → xs ≡ replicate (length xs) 0) → (x ∷ xs) ≡ (0 ∷ replicate (length xs) 0)
     both true p q more = let a : x ≡ 0 = eqb-true x 0 p in let b : xs ≡ replicate (length xs) 0 = more q in cc
     both false p q more = absurd (false≢true q)
+
+-- a list of zeros in two pieces
+pub zeros-append : (xs ys : List ℕ) → zeros (xs ++ ys) ≡ true → (zeros xs ≡ true) × (zeros ys ≡ true)
+unfolding zeros
+zeros-append [] ys e = (refl, e)
+zeros-append (x ∷ xs) ys e =
+    let b = both (eqb x 0) (zeros (xs ++ ys)) e in
+    let m = zeros-append xs ys (b .1) in
+    (rw (b .0, m .0), m .1)
 
 pub zeros-blank : (n : ℕ) → zeros (blank n) ≡ true
 unfolding zeros blank

@@ -1,0 +1,3 @@
+-- The forms of redirect, challenge and verifier, and their limits.
+pub mod Limits
+pub mod Forms

@@ -1,0 +1,94 @@
+-- Laws of records: their number, their places, one replaced. Assumes nothing.
+use Prim.Native.Nat.{ℕ, zero, suc, _+_, _*_, _-_, _≤_, _<_}
+use native.Mathlib.Nat.{add-sub-cancel-left}
+use native.Mathlib.Omega.{arith}
+use native.Mathlib.Decide.{ℕ-discrete, decLt}
+use mathlib.Core.Path.{_≡_, refl, sym, ap, _∙_}
+use mathlib.Core.Logic.{_≢_}
+use mathlib.Core.List.{List, [], _∷_}
+use lib.ListN.{length, getD, take, drop, set, length-take, length-drop, length-set, drop-of-length-le, List·getD-eq-default}
+use lib.Seq.{ext-getD, getD-set-same, getD-set-other, take-nil}
+use Rattle.octets.specs.Lists.{tabulate}
+use Rattle.octets.specs.Parts.{part, splice}
+use Rattle.octets.proofs.Parts.{part-length, splice-length, part-same, part-before, part-behind}
+use Rattle.octets.proofs.Tabulate.{length-tabulate, getD-tabulate}
+use Rattle.ledger.specs.Fields.{rec, slots, records, withRecord}
+
+-- a place below the number of records is within the ledger
+pub slot-within : (l : List ℕ) (k : ℕ) → k < slots l → 32 + (k + 1) * 256 ≤ length l
+unfolding slots
+slot-within l k h = omega arith
+
+-- and a whole record that is within has its place
+pub within-slot : (l : List ℕ) (k : ℕ) → 32 + (k + 1) * 256 ≤ length l → k < slots l
+unfolding slots
+within-slot l k h = omega arith
+
+pub slots-room : (l : List ℕ) → 32 ≤ length l → 32 + slots l * 256 ≤ length l
+unfolding slots
+slots-room l h = omega arith
+
+pub rec-length : (l : List ℕ) (k : ℕ) → k < slots l → length (rec l k) ≡ 256
+unfolding rec
+rec-length l k h = let w = slot-within l k h in part-length l (32 + k * 256) 256 (omega arith)
+
+-- nothing is left behind the last record and what is left of one
+pub rec-none : (l : List ℕ) (k : ℕ) → slots l < k → rec l k ≡ []
+unfolding rec slots
+rec-none l k h =
+    let w : length l ≤ 32 + k * 256 = omega arith in
+    rw (drop-of-length-le l w) (take-nil 256)
+
+pub length-records : (l : List ℕ) → length (records l) ≡ slots l
+unfolding records
+length-records l = length-tabulate (rec l) (slots l)
+
+pub records-at : (l : List ℕ) (k : ℕ) → k < slots l → getD (records l) k [] ≡ rec l k
+unfolding records
+records-at l k h = getD-tabulate (rec l) [] (slots l) k h
+
+-- ---- one record replaced
+
+module _ (l : List ℕ) (k : ℕ) (r : List ℕ) (sized : length r ≡ 256) (inside : k < slots l) where
+  within : 32 + k * 256 + 256 ≤ length l
+  within = let w = slot-within l k inside in omega arith
+
+  pub length-with : length (withRecord l k r) ≡ length l
+  length-with = splice-length l (32 + k * 256) 256 r sized within
+
+  pub slots-with : slots (withRecord l k r) ≡ slots l
+  unfolding slots
+  slots-with = rw length-with
+
+  pub rec-same : rec (withRecord l k r) k ≡ r
+  unfolding rec
+  rec-same = part-same l (32 + k * 256) 256 r sized within
+
+  pub rec-other : (j : ℕ) → j ≢ k → rec (withRecord l k r) j ≡ rec l j
+  unfolding rec
+  rec-other j ne = go (decLt j k)
+    where
+      go : Dec (j < k) → part (withRecord l k r) (32 + j * 256) 256 ≡ part l (32 + j * 256) 256
+      go (yes h) = part-before l (32 + k * 256) 256 r sized within (32 + j * 256) 256 (omega arith)
+      go (no h) = part-behind l (32 + k * 256) 256 r sized within (32 + j * 256) 256 (omega (arith, ne, h))
+
+  pub records-with : records (withRecord l k r) ≡ set (records l) k r
+  records-with =
+      ext-getD [] (records (withRecord l k r)) (set (records l) k r)
+      (length-records (withRecord l k r) ∙ slots-with ∙ sym (length-records l) ∙ sym (length-set (records l) k r))
+      (λ j h. at j (rw (length-records (withRecord l k r), slots-with) at h) (ℕ-discrete j k))
+    where
+      at : (j : ℕ) → j < slots l → Dec (j ≡ k) → getD (records (withRecord l k r)) j [] ≡ getD (set (records l) k r) j []
+      at j h (yes e) =
+          let m : k < length (records l) = rw (length-records l) inside in
+          records-at (withRecord l k r) j (rw slots-with h) ∙ rw e (rec-same ∙ sym (getD-set-same (records l) k r [] m))
+      at j h (no ne) =
+          records-at (withRecord l k r) j (rw slots-with h)
+          ∙ rec-other j ne ∙ sym (records-at l j h) ∙ sym (getD-set-other (records l) k j r [] ne)
+
+-- a record as a loop lends it
+pub whole-part : (l : List ℕ) (k : ℕ) → k < slots l
+    → (part l (32 + k * 256) (32 + k * 256 + 256 - (32 + k * 256)) ≡ rec l k)
+    × (length (part l (32 + k * 256) (32 + k * 256 + 256 - (32 + k * 256))) ≡ 256)
+unfolding rec
+whole-part l k h = let e = add-sub-cancel-left (32 + k * 256) 256 in rw e (refl, rec-length l k h)

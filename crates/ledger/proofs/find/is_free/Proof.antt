@@ -1,0 +1,11 @@
+use Rattle.ledger.proofs.find.is_free.Statement.{statement}
+use Rattle.ledger.specs.Checks.{isFree}
+use borrow.Author.Needs.{needs}
+use Rattle.ledger.proofs.find.is_free.Tie as tie
+
+returns : tie.Need-returns
+unfolding isFree
+returns c = cc
+
+pub is-free-spec : {M : Type 1} → statement M
+is-free-spec = tie.close (tie.spec (search needs) (search needs) returns)

@@ -1,0 +1,11 @@
+use Rattle.ledger.proofs.find.reference.Statement.{statement}
+use Rattle.ledger.specs.Checks.{wanted}
+use borrow.Author.Needs.{needs}
+use Rattle.ledger.proofs.find.reference.Tie as tie
+
+returns : tie.Need-returns
+unfolding wanted
+returns c = cc
+
+pub reference-spec : {M : Type 1} → statement M
+reference-spec = tie.close (tie.spec (search needs) returns)
