@@ -4,3 +4,4 @@ pub mod Loops
 pub mod ShortCuts
 pub mod Redirects
 pub mod Swept
+pub mod Told

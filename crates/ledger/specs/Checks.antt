@@ -7,10 +7,12 @@ use Rattle.octets.specs.Lists.{some, place}
 use Rattle.octets.specs.Parts.{zeros, same}
 use Rattle.ledger.specs.Limits.{clockLimit}
 use Rattle.ledger.specs.Fields.{clock, slots, records, inState, client, value, token, expiry}
-use Rattle.ledger.specs.Sound.{sound, holds}
+use Rattle.ledger.specs.Sound.{sized, sound, holds}
 use Rattle.ledger.specs.declared.state.State.the-variants.{Free, Pushed, Consented, Redeemed}
 use Rattle.ledger.specs.declared.sound.Soundness.{Soundness}
 use Rattle.ledger.specs.declared.sound.Soundness.the-variants.{Sound, Unsound}
+use Rattle.ledger.specs.declared.sound.Size.{Size}
+use Rattle.ledger.specs.declared.sound.Size.the-variants.{Right, Wrong}
 use Rattle.ledger.specs.declared.clock.Timing.{Timing}
 use Rattle.ledger.specs.declared.clock.Timing.the-variants.{Timely, Untimely}
 use Rattle.ledger.specs.declared.fresh.Freshness.{Freshness}
@@ -21,6 +23,10 @@ use Rattle.ledger.specs.declared.find.Kind.{Kind}
 use Rattle.ledger.specs.declared.find.Kind.the-variants.{Vacant, Reference, Code, Token}
 use Rattle.ledger.specs.declared.record.Life.{Life}
 use Rattle.ledger.specs.declared.record.Life.the-variants.{Alive, Expired}
+
+-- 1, at start: "1 if the length is wrong"
+unfoldable pub checkSize : List ℕ → Size
+checkSize l = cond (sized l) Right Wrong
 
 -- 1: "ledger length wrong or ledger not sound"; a sound ledger answers how many records it has
 unfoldable pub checkSound : List ℕ → Soundness

@@ -6,7 +6,7 @@ ghost use Rattle.octets.specs.Lists.{every};
 ghost use Rattle.ledger.specs.Limits.{headSize, recordSize};
 ghost use Rattle.ledger.specs.Fields.{records};
 ghost use Rattle.ledger.specs.Sound.{sized, headSound, holderSound, tokenSound, keySound, redirectSound, numbersSound, bytesSound, recordSound};
-ghost use Rattle.ledger.specs.Checks.{checkSound};
+ghost use Rattle.ledger.specs.Checks.{checkSize, checkSound};
 use super::clock::clock;
 use super::clock::next_number;
 use super::field::Field;
@@ -45,6 +45,21 @@ fn is_sized(l: &[u8]) -> bool
         return false;
     }
     (n - Ledger::HEAD) % Ledger::RECORD == 0
+}
+
+pub enum Size {
+    Right,
+    Wrong,
+}
+
+// The length alone, for a buffer whose old content is ignored.
+pub fn check_size(l: &[u8]) -> Size
+    ensures { λ r. ⌜ r ≡ checkSize (now (l .entry)) ⌝ }
+{
+    if is_sized(l) {
+        return Size::Right;
+    }
+    Size::Wrong
 }
 
 fn is_head_sound(l: &[u8]) -> bool

@@ -1,0 +1,5 @@
+// Clients: the client table (document 01, section "Client table"): which tables are sound (check 3), which client is known (check 4),
+// and what a push asks of a client's record. The table is lent and only read. It rests on octets.
+pub mod known;
+pub mod record;
+pub mod table;

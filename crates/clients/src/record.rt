@@ -1,0 +1,63 @@
+// A client record: where its fields are, and what is read off record k of a table. Past the last record there are no bytes.
+ghost use mathlib.Core.Path.{_≡_};
+ghost use Rattle.clients.specs.Limits.{clientSize};
+ghost use Rattle.clients.specs.Fields.{clients, client, permitted};
+use octets::number::read32;
+use octets::part::cut;
+
+pub struct Client {}
+
+impl Client {
+    pub const SIZE: usize = 64;
+
+    pub fn size() -> usize
+        ensures { λ r. ⌜ r ≡ clientSize ⌝ }
+    {
+        Client::SIZE
+    }
+}
+
+// Where a field begins, and how many bytes it has.
+pub struct Field {}
+
+impl Field {
+    pub const ID: usize = 0;
+
+    pub const ID_SIZE: usize = 16;
+
+    pub const AUTH_KEY: usize = 16;
+
+    pub const AUTH_KEY_SIZE: usize = 32;
+
+    pub const PERMITTED: usize = 48;
+
+    pub const PERMITTED_SIZE: usize = 4;
+
+    pub const REST: usize = 52;
+
+    pub const REST_SIZE: usize = 12;
+}
+
+// How many whole records the table has.
+pub fn clients(table: &[u8]) -> usize
+    ensures { λ r. ⌜ r ≡ clients (now (table .entry)) ⌝ }
+{
+    table.len() / Client::SIZE
+}
+
+// Record k. The place is computed only where it cannot pass the end.
+pub fn client_at(table: &[u8], k: usize) -> &[u8]
+    ensures { λ r. ⌜ now r ≡ client (now (table .entry)) k ⌝ }
+{
+    if clients(table) < k {
+        return cut(table, table.len(), Client::SIZE);
+    }
+    cut(table, Client::SIZE * k, Client::SIZE)
+}
+
+// The permitted scope bits: all that a push asks of the client's record.
+pub fn permitted(table: &[u8], k: usize) -> u32
+    ensures { λ r. ⌜ r ≡ permitted (client (now (table .entry)) k) ⌝ }
+{
+    read32(cut(client_at(table, k), Field::PERMITTED, Field::PERMITTED_SIZE))
+}

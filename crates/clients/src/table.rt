@@ -1,0 +1,114 @@
+// Check 3: whether the client table is sound.
+ghost use mathlib.Core.Path.{_≡_};
+ghost use Rattle.octets.specs.Lists.{every};
+ghost use Rattle.clients.specs.Limits.{leastClients, mostClients};
+ghost use Rattle.clients.specs.Fields.{entries};
+ghost use Rattle.clients.specs.Sound.{lengthRight, soundRecord, idsDistinct, checkTable};
+use super::record;
+use super::record::Client;
+use super::record::Field;
+use octets::part::cut;
+use octets::part::is_zero;
+use octets::part::same;
+
+pub enum Table {
+    Sound,
+    Unsound,
+}
+
+impl Table {
+    pub const LEAST: usize = 1;
+
+    pub const MOST: usize = 64;
+
+    pub fn least() -> usize
+        ensures { λ r. ⌜ r ≡ leastClients ⌝ }
+    {
+        Table::LEAST
+    }
+
+    pub fn most() -> usize
+        ensures { λ r. ⌜ r ≡ mostClients ⌝ }
+    {
+        Table::MOST
+    }
+}
+
+fn length_right(table: &[u8]) -> bool
+    ensures { λ r. ⌜ r ≡ lengthRight (now (table .entry)) ⌝ }
+{
+    let n = record::clients(table);
+    if table.len() != Client::SIZE * n {
+        return false;
+    }
+    if n < Table::LEAST {
+        return false;
+    }
+    n <= Table::MOST
+}
+
+fn sound_record(c: &[u8]) -> bool
+    ensures { λ r. ⌜ r ≡ soundRecord (now (c .entry)) ⌝ }
+{
+    if is_zero(cut(c, Field::ID, Field::ID_SIZE)) {
+        return false;
+    }
+    if is_zero(cut(c, Field::AUTH_KEY, Field::AUTH_KEY_SIZE)) {
+        return false;
+    }
+    is_zero(cut(c, Field::REST, Field::REST_SIZE))
+}
+
+fn sound_records(table: &[u8]) -> bool
+    ensures { λ r. ⌜ r ≡ every soundRecord (entries (now (table .entry))) ⌝ }
+{
+    let n = record::clients(table);
+    let mut k = 0;
+    while k < n {
+        if !sound_record(record::client_at(table, k)) {
+            return false;
+        }
+        k += 1;
+    }
+    true
+}
+
+// Each pair of records is looked at, up to the first clash.
+fn ids_distinct(table: &[u8]) -> bool
+    ensures { λ r. ⌜ r ≡ idsDistinct (now (table .entry)) ⌝ }
+{
+    let n = record::clients(table);
+    let mut clash = false;
+    let mut i = 0;
+    'search: while i < n {
+        let id = cut(record::client_at(table, i), Field::ID, Field::ID_SIZE);
+        let mut j = i + 1;
+        while j < n {
+            if same(
+                id,
+                cut(record::client_at(table, j), Field::ID, Field::ID_SIZE),
+            ) {
+                clash = true;
+                break 'search;
+            }
+            j += 1;
+        }
+        i += 1;
+    }
+    !clash
+}
+
+pub fn check(table: &[u8]) -> Table
+    ensures { λ r. ⌜ r ≡ checkTable (now (table .entry)) ⌝ }
+{
+    if !length_right(table) {
+        return Table::Unsound;
+    }
+    if !sound_records(table) {
+        return Table::Unsound;
+    }
+    if !ids_distinct(table) {
+        return Table::Unsound;
+    }
+    Table::Sound
+}

@@ -1,0 +1,41 @@
+-- The digits of a number, each by its place. Assumes nothing.
+use Prim.Native.Nat.{ℕ, zero, suc, _+_, _-_, _*_, _/_, _%_, _^_, _≤_, _<_}
+use mathlib.Core.Path.{_≡_, refl, ap, sym, _∙_}
+use mathlib.Core.List.{List, [], _∷_, _++_}
+use native.Mathlib.Omega.{arith}
+use lib.ListN.{length, getD}
+use lib.Pow.{shr-shr, field, mod-mod-pow}
+use Rattle.octets.specs.Lists.{tabulate}
+use Rattle.octets.specs.Numbers.{digits}
+use Rattle.octets.proofs.Tabulate.{length-tabulate, getD-tabulate, tabulate-same}
+
+-- byte i of the n lowest of v
+abbrev pub digit : ℕ → ℕ → ℕ → ℕ
+digit n v i = v / 2 ^ (8 * (n - suc i)) % 2 ^ 8
+
+digit-up : (n v i : ℕ) → i < n → digit n (v / 256) i ≡ digit (suc n) v i
+digit-up n v i h =
+    let e : 8 * (suc n - suc i) ≡ 8 + 8 * (n - suc i) = omega arith in
+    rw e (ap (λ x. x % 2 ^ 8) (shr-shr v 8 (8 * (n - suc i))))
+
+digit-last : (n v : ℕ) → v % 256 ≡ digit (suc n) v n
+digit-last n v =
+    let e : 8 * (suc n - suc n) ≡ 0 = omega arith in
+    rw e (omega arith)
+
+pub digits-table : (n v : ℕ) → digits n v ≡ tabulate (digit n v) n
+unfolding digits tabulate
+digits-table zero v = refl
+digits-table (suc n) v =
+    rw (digits-table n (v / 256), digit-last n v)
+    (ap (λ l. l ++ (digit (suc n) v n ∷ [])) (tabulate-same (digit n (v / 256)) (digit (suc n) v) n (digit-up n v)))
+
+pub length-digits : (n v : ℕ) → length (digits n v) ≡ n
+length-digits n v = rw (digits-table n v) (length-tabulate (digit n v) n)
+
+pub getD-digits : (n v i : ℕ) → i < n → getD (digits n v) i 0 ≡ digit n v i
+getD-digits n v i h = rw (digits-table n v) (getD-tabulate (digit n v) 0 n i h)
+
+-- a byte does not see what a remainder by a higher power drops
+pub digit-low : (v j k : ℕ) → v % 2 ^ ((j + 8) + k) / 2 ^ k % 2 ^ 8 ≡ v / 2 ^ k % 2 ^ 8
+digit-low v j k = ap (λ x. x % 2 ^ 8) (field v (j + 8) k) ∙ mod-mod-pow (v / 2 ^ k) j 8

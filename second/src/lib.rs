@@ -1,0 +1,11 @@
+//! The independent second program: the permissions desk of document 01 in plain Rust.
+//! Written from document 01 alone and resting on the standard library alone; the proved desk is compared with it.
+
+pub mod base64url;
+pub mod desk;
+pub mod form;
+pub mod ledger;
+pub mod limits;
+pub mod line;
+pub mod sha256;
+pub mod table;

@@ -1,0 +1,51 @@
+//! The client table: 1 to 64 records of 64 bytes, lent and only read.
+
+use crate::limits::table::{CLIENT_BYTES, MAX_CLIENTS};
+
+#[derive(Clone, Copy)]
+pub struct Client<'a>(&'a [u8; CLIENT_BYTES]);
+
+impl<'a> Client<'a> {
+    pub fn id(self) -> &'a [u8; 16] {
+        self.0[..16].try_into().unwrap()
+    }
+
+    pub fn auth_key(self) -> &'a [u8; 32] {
+        self.0[16..48].try_into().unwrap()
+    }
+
+    pub fn permitted(self) -> u32 {
+        u32::from_be_bytes(self.0[48..52].try_into().unwrap())
+    }
+
+    fn sound(self) -> bool {
+        *self.id() != [0; 16] && *self.auth_key() != [0; 32] && self.0[52..] == [0; 12]
+    }
+}
+
+/// A client table found sound.
+#[derive(Clone, Copy)]
+pub struct Table<'a>(&'a [[u8; CLIENT_BYTES]]);
+
+impl<'a> Table<'a> {
+    pub fn read(bytes: &'a [u8]) -> Option<Self> {
+        let (records, rest) = bytes.as_chunks();
+        let table = Table(records);
+        let length_ok = rest.is_empty() && (1..=MAX_CLIENTS).contains(&records.len());
+        (length_ok && table.clients().all(Client::sound) && table.ids_distinct()).then_some(table)
+    }
+
+    pub fn find(self, id: &[u8; 16]) -> Option<Client<'a>> {
+        self.clients().find(|client| client.id() == id)
+    }
+
+    fn clients(self) -> impl Iterator<Item = Client<'a>> {
+        self.0.iter().map(Client)
+    }
+
+    fn ids_distinct(self) -> bool {
+        self.clients()
+            .enumerate()
+            .all(|(i, a)| self.clients().skip(i + 1).all(|b| a.id() != b.id()))
+    }
+}

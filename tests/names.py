@@ -1,0 +1,61 @@
+#!/usr/bin/env python3
+"""Every file and name that docs/PROMISES.md cites exists.
+
+A citation is `path/to/file: name, name`, in backticks; each name counts as one test. A path alone, `crates/NAME/src`, must exist.
+In .rt a name is a function, struct, enum, constant or case (`Type::name` is a name of that type's file); in .antt a definition, law,
+record, field, data type or ruleset; in other files a string that occurs.
+"""
+import re
+import sys
+from pathlib import Path
+
+TOP = Path(__file__).resolve().parent.parent
+PAGE = "docs/PROMISES.md"
+CITATION = re.compile(r"`((?:crates|docs|tests|second|tools)/[^`:\s]+)(?::\s*([^`]+))?`")
+
+ANTT_COMMENT = re.compile(r"(?<!\S)--[^\n]*|\{-.*?-\}", re.S)
+RATTLE_COMMENT = re.compile(r"//[^\n]*")
+
+
+def in_rattle(text, name):
+    text, word = RATTLE_COMMENT.sub("", text), re.escape(name.split("::")[-1])
+    if "::" in name and not re.search(rf"\b(?:struct|enum|impl)\s+{re.escape(name.split('::')[0])}\b", text):
+        return False
+    if re.search(rf"\b(?:fn|struct|enum|const)\s+{word}\b", text):
+        return True
+    bodies = re.findall(r"\benum\s+\w+\s*\{([^}]*)\}", text)
+    return any(re.search(rf"^\s*{word}\b\s*(?:[({{,=]|$)", body, re.M) for body in bodies)
+
+
+def in_antt(text, name):
+    text, word = ANTT_COMMENT.sub("", text), re.escape(name)
+    signature = rf"^\s*(?:(?:abbrev|unfoldable|pub)\s+)*{word}(?:\s+\{{[^}}]*\}})*\s*:(?=\s|$)"
+    declared = rf"^\s*(?:pub\s+)?(?:record|data|ruleset)\s+{word}(?=\s|$)"
+    return bool(re.search(signature, text, re.M) or re.search(declared, text, re.M))
+
+
+def defines(file, name):
+    text = file.read_text(encoding="utf8")
+    return {".rt": in_rattle, ".antt": in_antt}.get(file.suffix, str.__contains__)(text, name)
+
+
+def problems(page):
+    """For each citation of the page what is wrong with it, or None."""
+    for number, line in enumerate(page.split("\n"), 1):
+        for path, names in CITATION.findall(line):
+            file = TOP / path
+            for name in re.split(r",\s*", names.strip()) if names else [None]:
+                if not (file.is_file() if name else file.exists()):
+                    yield f"{PAGE}:{number}: no {path}"
+                elif name and not defines(file, name):
+                    yield f"{PAGE}:{number}: {path} defines no {name}"
+                else:
+                    yield None
+
+
+if __name__ == "__main__":
+    found = list(problems((TOP / PAGE).read_text(encoding="utf8"))) or [f"{PAGE} cites nothing"]
+    wrong = [problem for problem in found if problem]
+    print(*wrong, sep="\n", end="\n" if wrong else "")
+    print(f"{len(found) - len(wrong)} passed, {len(wrong)} failed")
+    sys.exit(1 if wrong else 0)

@@ -1,0 +1,136 @@
+"""The frames and answers of the line program (document 01, "The line program"), for tools/ and tests/."""
+import base64
+import hashlib
+import re
+
+# Each kind: its first byte and its fields with their widths; width None takes the rest of the line.
+KINDS = {
+    "start": (0, [("slots", 1)]),
+    "push": (1, [("now", 8), ("client", 16), ("auth", 32), ("scope", 4), ("challenge", 43), ("fresh", 32), ("redirect", None)]),
+    "decide": (2, [("now", 8), ("client", 16), ("reference", 32), ("yes", 1), ("holder", 8), ("fresh", 32)]),
+    "token": (3, [("now", 8), ("client", 16), ("auth", 32), ("key", 32), ("code", 32), ("fresh", 32), ("verifier", None)]),
+    "resource": (4, [("now", 8), ("token", 32), ("key", 32), ("scope", 4), ("holder", 8)]),
+    "sweep": (5, [("now", 8)]),
+    "client": (6, [("client", 16), ("auth", 32), ("permitted", 4), ("zero", 12)]),
+}
+NAMES = {byte: name for name, (byte, _) in KINDS.items()}
+NUMBERS = {"slots", "now", "scope", "yes", "holder", "permitted"}
+TEXTS = {"challenge", "redirect", "verifier"}
+
+WORDS = {
+    0: "done",
+    1: "ledger length wrong or ledger not sound",
+    2: "now is below the clock, or 2^40 or more",
+    3: "client table not sound",
+    4: "no such client id, or its authentication key differs",
+    5: "redirect or challenge (push), or verifier (token) ill formed",
+    6: "scope 0, or not within the permitted (push) or granted (resource) bits",
+    7: "fresh value all zeros, or in the pool",
+    8: "no free record",
+    9: "next grant number is 2^64 - 1",
+    10: "no record in state 1 with this reference and client id",
+    11: "the record is expired",
+    12: "holder 0",
+    13: "presented key all zeros",
+    14: "no record in state 2 or 3 with this code and client id",
+    15: "that record is in state 3, expired or not",
+    16: "verifier does not match",
+    17: "no record in state 3 with this token",
+    18: "presented key differs from the bound key",
+    19: "holder asked is not the record's holder",
+    20: "output buffer shorter than 64 bytes",
+    0xff: "no frame",
+}
+
+# The fields behind the number in an answer, by kind.
+GRANT = [("grant", 8), ("holder", 8), ("scope", 4), ("expiry", 8)]
+ANSWERS = {
+    "start": [], "client": [], "push": GRANT, "token": GRANT, "resource": GRANT,
+    "decide": GRANT + [("length", 1)],
+    "sweep": [("pushed", 2), ("consented", 2), ("redeemed", 2)],
+}
+
+
+def frame(kind, **fields):
+    """The frame as lower-case hexadecimal; numbers as int, all else as bytes."""
+    byte, layout = KINDS[kind]
+    parts = [bytes([byte])]
+    for name, width in layout:
+        value = fields.pop(name, bytes(12) if name == "zero" else None)
+        if value is None:
+            raise ValueError(f"{kind} needs {name}=")
+        if isinstance(value, int):
+            if not 0 <= value < 256 ** width:
+                raise ValueError(f"{name}={value} does not fit {width} bytes")
+            value = value.to_bytes(width, "big")
+        if width not in (None, len(value)):
+            raise ValueError(f"{name} has {len(value)} bytes, it needs {width}")
+        parts.append(value)
+    if fields:
+        raise ValueError(f"{kind} has no {', '.join(fields)}")
+    return b"".join(parts).hex()
+
+
+def read(line, kind=None):
+    """An answer line as a dict, or None if it is no answer of this kind; without a kind its length tells."""
+    try:
+        data = bytes.fromhex(line)
+    except ValueError:
+        return None
+    if kind is None:
+        kind = {1: "start", 7: "sweep", 29: "push"}.get(len(data), "decide")
+    if not data or data == b"\xff":
+        return {"number": 0xff} if data else None
+    answer, rest = {"number": data[0]}, data[1:]
+    for name, width in ANSWERS[kind]:
+        if len(rest) < width:
+            return None
+        answer[name], rest = int.from_bytes(rest[:width], "big"), rest[width:]
+    if kind == "decide":
+        answer["redirect"] = rest
+    return answer if len(rest) == answer.get("length", 0) else None
+
+
+def s256(verifier):
+    """The challenge of a verifier (RFC 7636), from the standard library."""
+    return base64.urlsafe_b64encode(hashlib.sha256(verifier).digest()).rstrip(b"=")
+
+
+def value(name, text):
+    """A field as people write it (tools/frame --help)."""
+    if name in NUMBERS:
+        return {"yes": 1, "no": 0}[text] if text in ("yes", "no") else int(text, 0)
+    if name == "challenge" and text.startswith("s256:"):
+        return s256(text[5:].encode())
+    match = re.fullmatch(r"(text:.*|0x[0-9A-Fa-f]+)\*(\d+)", text)
+    text, times = (match[1], int(match[2])) if match else (text, 1)
+    if text.startswith("text:"):
+        return text[5:].encode() * times
+    if text.startswith("0x"):
+        return bytes.fromhex(text[2:]) * times
+    return text.encode() if name in TEXTS else bytes.fromhex(text)
+
+
+def make(kind, arguments):
+    """The frame of a kind from arguments NAME=VALUE."""
+    fields = {}
+    for argument in arguments:
+        name, equals, text = argument.partition("=")
+        if not equals or name not in dict(KINDS[kind][1]):
+            raise ValueError(f"{kind} has no field {argument}")
+        try:
+            fields[name] = value(name, text)
+        except ValueError as error:
+            raise ValueError(f"{argument}: {error}") from None
+    return frame(kind, **fields)
+
+
+def say(line, kind=None):
+    """An answer line in words."""
+    answer = read(line, kind)
+    if answer is None:
+        return "no answer line"
+    words = f"{answer['number']}: {WORDS.get(answer['number'], 'no such number')}"
+    rest = [f"{name} {value.decode('latin-1') if name == 'redirect' else value}"
+            for name, value in answer.items() if name != "number"]
+    return words if answer["number"] else "; ".join([words] + rest)
