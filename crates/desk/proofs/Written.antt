@@ -1,0 +1,144 @@
+-- What is written once a call's record is found, as the code lends it. Assumes nothing.
+use Prim.Native.Nat.{ℕ, _+_, _*_, _-_, _≤_, _<_, _^_}
+use native.Mathlib.Nat.{add-sub-cancel-left}
+use native.Mathlib.Omega.{arith}
+use mathlib.Core.Path.{_≡_, refl, sym, ap, _∙_}
+use mathlib.Core.Bool.{Bool, true, false, _||_, cond}
+use mathlib.Core.List.{List}
+use lib.Dec.{ltb, leb}
+use borrow.Author.Tests.{leb-true, leb-false}
+use lib.ListN.{length}
+use Rattle.octets.proofs.Tests.{and-l, and-r}
+use Rattle.ledger.specs.Sound.{sized, sound}
+use Rattle.octets.specs.Lists.{some, place}
+use Rattle.octets.specs.Parts.{part, splice}
+use Rattle.octets.proofs.Lists.{place-lt}
+use Rattle.ledger.specs.Limits.{referenceLifetime, codeLifetime, tokenLifetime}
+use Rattle.ledger.specs.Fields.{rec, slots, records, clock, nextNumber, grant, redirectLength, withRecord, withNext, withClock}
+use Rattle.ledger.specs.Checks.{untimely, found, isFree}
+use Rattle.ledger.specs.Write.{pushed, consented, redeemed, free}
+use Rattle.ledger.specs.declared.find.Found.the-variants.{At}
+use Rattle.ledger.proofs.Records.{slot-within, whole-part, length-records}
+use Rattle.ledger.proofs.Told.{found-told, found-place}
+use Rattle.desk.specs.Answers.{answerOf, answerNo, decided}
+use Rattle.desk.specs.Requests.{PushRequest, DecideRequest, TokenRequest}
+use Rattle.desk.specs.Push.{Outcome, left, pushAt, pushRecord}
+use Rattle.desk.specs.Decide.{Decision, leftBoth, referenceAt, handedOut, consentRecord, consentAt, declineAt, decideAt}
+use Rattle.desk.specs.Token.{codeAt, tokenRecord, tokenAt}
+use Rattle.desk.specs.Sweep.{Sweeping, leftSwept}
+use Rattle.desk.specs.declared.answer.Answer.{Answer}
+use Rattle.desk.specs.declared.answer.Decided.{Decided}
+use Rattle.desk.specs.declared.answer.Swept.{Swept}
+
+-- a record that comes back from its loan
+pub lent-back : (l : List ℕ) (k : ℕ) (x y : List ℕ) → x ≡ y → splice l (32 + k * 256) (32 + k * 256 + 256 - (32 + k * 256)) x ≡ withRecord l k y
+lent-back l k x y e = let c = add-sub-cancel-left (32 + k * 256) 256 in rw (c, e)
+
+-- what is found is a place in the ledger
+pub found-inside : (q : List ℕ → Bool) (l : List ℕ) (k : ℕ) → found q l ≡ At k → k < slots l
+found-inside q l k e =
+    let s = found-told q l (At k) e in
+    let p = place-lt q (records l) s in
+    rw (← found-place q l k e, ← length-records l) p
+
+or-right : (a b : Bool) → (a || b) ≡ false → b ≡ false
+or-right true b e = let z : _≡_ {A = ℕ} 0 1 = absurd (true-false e) in absurd (omega arith)
+  where
+    true-false : true ≡ false → ⊥
+    true-false e = let z : _≡_ {A = ℕ} 0 1 = cc in omega arith
+or-right false b e = e
+
+-- a time that passed check 2 is below its limit
+pub timely-lt : (l : List ℕ) (t : ℕ) → untimely l t ≡ false → t < 2 ^ 40
+unfolding untimely
+timely-lt l t e = leb-false (2 ^ 40) t (or-right (ltb t (clock l)) _ e)
+
+-- ---- a call's record written, then the head: what the definition says
+
+module _ (l : List ℕ) (t k : ℕ) (inside : k < slots l) where
+  abbrev start : ℕ
+  start = 32 + k * 256
+
+  abbrev lent : List ℕ
+  lent = part l start (start + 256 - start)
+
+  pub lent-is : lent ≡ rec l k
+  lent-is = whole-part l k inside .0
+
+  pub push-written : (table : List ℕ) (p : PushRequest) (bits number : ℕ) (x y z : List ℕ) (a : Answer)
+      → place isFree (records l) ≡ k → bits ≡ p .scope → number ≡ nextNumber l
+      → x ≡ pushed bits number (t + referenceLifetime) (p .client) (p .challenge) (p .fresh) (p .redirect) lent → a ≡ answerOf x
+      → y ≡ withNext (number + 1) (splice l start (start + 256 - start) x) → z ≡ withClock t y
+      → left a z ≡ pushAt l t table p (place isFree (records l))
+  unfolding pushAt pushRecord
+  push-written table p bits number x y z a e hb hn hx ha hy hz =
+      let e1 : x ≡ pushed (p .scope) (nextNumber l) (t + referenceLifetime) (p .client) (p .challenge) (p .fresh) (p .redirect) (rec l k) = hx ∙ rw (hb, hn, lent-is) in
+      let e2 : y ≡ withNext (nextNumber l + 1) (withRecord l k x) = hy ∙ rw hn (ap (withNext (nextNumber l + 1)) (lent-back l k x x refl)) in
+      rw (e, hz, e2, ha, e1)
+
+  pub consent-written : (who : ℕ) (fresh out x z o : List ℕ) (n : ℕ) (a : Answer) (d : Decided)
+      → n ≡ redirectLength lent → o ≡ handedOut lent out
+      → x ≡ consented (t + codeLifetime) who fresh lent → a ≡ answerOf x
+      → z ≡ withClock t (splice l start (start + 256 - start) x) → d ≡ decided a n
+      → leftBoth d z o ≡ consentAt l t who fresh out k
+  unfolding consentAt consentRecord
+  consent-written who fresh out x z o n a d hn ho hx ha hz hd =
+      let e1 : x ≡ consented (t + codeLifetime) who fresh (rec l k) = hx ∙ rw lent-is in
+      let e2 : z ≡ withClock t (withRecord l k x) = hz ∙ ap (withClock t) (lent-back l k x x refl) in
+      rw (hd, e2, ha, hn, ho, e1, lent-is)
+
+  pub decline-written : (who : ℕ) (out x z o : List ℕ) (n : ℕ) (a : Answer) (d : Decided)
+      → n ≡ redirectLength lent → o ≡ handedOut lent out
+      → x ≡ free → a ≡ answerNo (grant lent) who
+      → z ≡ withClock t (splice l start (start + 256 - start) x) → d ≡ decided a n
+      → leftBoth d z o ≡ declineAt l t who out k
+  unfolding declineAt
+  decline-written who out x z o n a d hn ho hx ha hz hd =
+      let e2 : z ≡ withClock t (withRecord l k free) = hz ∙ ap (withClock t) (lent-back l k x free hx) in
+      rw (hd, e2, ha, hn, ho, lent-is)
+
+  pub token-written : (q : TokenRequest) (x z : List ℕ) (a : Answer)
+      → codeAt l q ≡ k
+      → x ≡ redeemed (t + tokenLifetime) (q .fresh) (q .presented) lent → a ≡ answerOf x
+      → z ≡ withClock t (splice l start (start + 256 - start) x)
+      → left a z ≡ tokenAt l t q (codeAt l q)
+  unfolding tokenAt tokenRecord
+  token-written q x z a e hx ha hz =
+      let e1 : x ≡ redeemed (t + tokenLifetime) (q .fresh) (q .presented) (rec l k) = hx ∙ rw lent-is in
+      let e2 : z ≡ withClock t (withRecord l k x) = hz ∙ ap (withClock t) (lent-back l k x x refl) in
+      rw (e, e2, ha, e1)
+
+pub decide-yes : (l : List ℕ) (t : ℕ) (d : DecideRequest) (out : List ℕ) (k : ℕ) → d .yes ≡ true → referenceAt l d ≡ k
+    → decideAt l t d out (referenceAt l d) ≡ consentAt l t (d .holder) (d .fresh) out k
+unfolding decideAt
+decide-yes l t d out k y e = rw e (by (d .yes) y)
+  where
+    by : (b : Bool) → b ≡ true → cond b (consentAt l t (d .holder) (d .fresh) out k) (declineAt l t (d .holder) out k) ≡ consentAt l t (d .holder) (d .fresh) out k
+    by b h = rw h
+
+pub decide-no : (l : List ℕ) (t : ℕ) (d : DecideRequest) (out : List ℕ) (k : ℕ) → d .yes ≡ false → referenceAt l d ≡ k
+    → decideAt l t d out (referenceAt l d) ≡ declineAt l t (d .holder) out k
+unfolding decideAt
+decide-no l t d out k y e = rw e (by (d .yes) y)
+  where
+    by : (b : Bool) → b ≡ false → cond b (consentAt l t (d .holder) (d .fresh) out k) (declineAt l t (d .holder) out k) ≡ declineAt l t (d .holder) out k
+    by b h = rw h
+
+-- ---- a refusal, as the code returns it
+
+pub refuses : {a b : Answer} {l : List ℕ} {o : Outcome} → a ≡ b → o ≡ left b l → left a l ≡ o
+refuses e f = rw e (sym f)
+
+pub refuses-both : {a b : Decided} {l out : List ℕ} {o : Decision} → a ≡ b → o ≡ leftBoth b l out → leftBoth a l out ≡ o
+refuses-both e f = rw e (sym f)
+
+pub refuses-swept : {a b : Swept} {l : List ℕ} {o : Sweeping} → a ≡ b → o ≡ leftSwept b l → leftSwept a l ≡ o
+refuses-swept e f = rw e (sym f)
+
+-- a sound ledger is short
+pub sound-short : (l : List ℕ) → sound l ≡ true → length l ≤ 51232
+unfolding sound sized
+sound-short l e =
+    let a = and-l _ _ e in
+    let b = and-r (leb 288 (length l)) _ a in
+    leb-true (length l) 51232 (and-l (leb (length l) 51232) _ b)

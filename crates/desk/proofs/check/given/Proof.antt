@@ -1,0 +1,15 @@
+use Rattle.desk.proofs.check.given.Statement.{statement}
+use Rattle.desk.specs.Told.{toldIf}
+use borrow.Author.Tests.{eq-eqb, ne-eqb}
+use Rattle.desk.proofs.check.given.Tie as tie
+
+returns : tie.Need-returns
+unfolding toldIf
+returns c = rw (eq-eqb _ _ (c .if1 .taken))
+
+returns-2 : tie.Need-returns-2
+unfolding toldIf
+returns-2 c = rw (ne-eqb _ _ (c .if1 .left))
+
+pub given-spec : {M : Type 1} → statement M
+given-spec = tie.close (tie.spec returns returns-2)

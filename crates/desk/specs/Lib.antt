@@ -1,0 +1,12 @@
+-- The six calls: their answers, their checks in order, and what each does (demands 1 and 2).
+pub mod Limits
+pub mod Answers
+pub mod Checks
+pub mod Requests
+pub mod Told
+pub mod Start
+pub mod Push
+pub mod Decide
+pub mod Token
+pub mod Resource
+pub mod Sweep

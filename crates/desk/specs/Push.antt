@@ -1,0 +1,75 @@
+-- "Push (client id, authentication key, scope, challenge, redirect, fresh value): 3, 4, 5, 6, 7, 8, 9."
+use Prim.Native.Nat.{ℕ, _+_}
+use mathlib.Core.Bool.{Bool, not, _&&_, cond}
+use mathlib.Core.List.{List, [], _∷_}
+use lib.Dec.{eqb}
+use Rattle.octets.specs.Lists.{some, place}
+use Rattle.forms.specs.Forms.{redirectFormed, challengeFormed}
+use Rattle.ledger.specs.Limits.{referenceLifetime, lastNumber}
+use Rattle.ledger.specs.Fields.{records, rec, nextNumber, withRecord, withNext, withClock}
+use Rattle.ledger.specs.Checks.{isFree, taken}
+use Rattle.ledger.specs.Write.{pushed}
+use Rattle.clients.specs.Fields.{client, permitted}
+use Rattle.clients.specs.Sound.{sound as tableSound}
+use Rattle.clients.specs.Known.{isKnown, placeOf}
+use Rattle.desk.specs.Answers.{answerOf, refused}
+use Rattle.desk.specs.Checks.{Check, _when_, Verdict, accepted, stopped, first, begins, scopeFits}
+use Rattle.desk.specs.Requests.{PushRequest}
+use Rattle.desk.specs.declared.answer.Answer.{Answer}
+use Rattle.desk.specs.declared.answer.Refusal.the-variants.{
+  TableUnsound,
+  ClientUnknown,
+  IllFormed,
+  ScopeRefused,
+  FreshTaken,
+  LedgerFull,
+  NumbersSpent,
+}
+
+-- what a call leaves: its answer, and the ledger's bytes
+pub record Outcome : Type 0 where
+  pub answer : Answer
+  pub ledger : List ℕ
+
+abbrev pub left : Answer → List ℕ → Outcome
+left a l = record { answer = a; ledger = l }
+
+-- "A refusal has zeros beside its number and changes no lent byte, clock included."
+abbrev pub concludes : Verdict → List ℕ → Outcome → Outcome
+concludes accepted l o = o
+concludes (stopped why) l o = left (refused why) l
+
+-- the client's record, found by its id
+abbrev pub asker : List ℕ → PushRequest → List ℕ
+asker table p = client table (placeOf table (p .client))
+
+-- the checks, in order
+unfoldable pub pushChecks : List ℕ → ℕ → List ℕ → PushRequest → List Check
+pushChecks l t table p =
+    begins l t
+    ((TableUnsound when not (tableSound table))
+    ∷ (ClientUnknown when not (isKnown table (p .client) (p .key)))
+    ∷ (IllFormed when not (redirectFormed (p .redirect) && challengeFormed (p .challenge)))
+    ∷ (ScopeRefused when not (scopeFits (p .scope) (permitted (asker table p))))
+    ∷ (FreshTaken when taken l (p .fresh))
+    ∷ (LedgerFull when not (some isFree (records l)))
+    ∷ (NumbersSpent when eqb (nextNumber l) lastNumber)
+    ∷ [])
+
+-- the seconds that a reference lives, by the client's record: the same for all
+abbrev pub lifetime : List ℕ → ℕ
+lifetime c = referenceLifetime
+
+-- "The first free record in ledger order becomes state 1 with the next grant number, value = fresh, expiry = now + 599."
+unfoldable pub pushRecord : List ℕ → ℕ → List ℕ → PushRequest → List ℕ → List ℕ
+pushRecord l t table p r =
+    pushed (p .scope) (nextNumber l) (t + lifetime (asker table p)) (p .client) (p .challenge) (p .fresh) (p .redirect) r
+
+-- "The next number rises by one." "the clock becomes now"
+unfoldable pub pushAt : List ℕ → ℕ → List ℕ → PushRequest → ℕ → Outcome
+pushAt l t table p k =
+    left (answerOf (pushRecord l t table p (rec l k)))
+    (withClock t (withNext (nextNumber l + 1) (withRecord l k (pushRecord l t table p (rec l k)))))
+
+unfoldable pub push : List ℕ → ℕ → List ℕ → PushRequest → Outcome
+push l t table p = concludes (first (pushChecks l t table p)) l (pushAt l t table p (place isFree (records l)))

@@ -1,0 +1,25 @@
+-- "Start (ledger buffer, old content ignored): 1 if the length is wrong. Writes zeros and next number 1."
+use Prim.Native.Nat.{ℕ}
+use mathlib.Core.Bool.{Bool, cond}
+use mathlib.Core.List.{List}
+use lib.ListN.{length}
+use Rattle.octets.specs.Parts.{blank}
+use Rattle.ledger.specs.Fields.{withNext}
+use Rattle.ledger.specs.Sound.{sized}
+use Rattle.desk.specs.Answers.{numberOf, done}
+use Rattle.desk.specs.declared.answer.Refusal.the-variants.{LedgerUnsound}
+
+-- "Start answers only its number."
+pub record Started : Type 0 where
+  pub number : ℕ
+  pub ledger : List ℕ
+
+abbrev pub leftAt : ℕ → List ℕ → Started
+leftAt n l = record { number = n; ledger = l }
+
+-- the bytes that start writes over a buffer of n bytes
+unfoldable pub fresh : ℕ → List ℕ
+fresh n = withNext 1 (blank n)
+
+unfoldable pub start : List ℕ → Started
+start l = cond (sized l) (leftAt done (fresh (length l))) (leftAt (numberOf LedgerUnsound) l)

@@ -1,0 +1,59 @@
+-- "Token (client id, authentication key, presented key, code, verifier, fresh value): 3, 4, 13, 5, then 14 or 15, 11, 16, 7."
+use Prim.Native.Nat.{ℕ, _+_}
+use mathlib.Core.Bool.{Bool, not}
+use mathlib.Core.List.{List, [], _∷_}
+use Rattle.octets.specs.Lists.{some, place}
+use Rattle.octets.specs.Parts.{zeros}
+use Rattle.forms.specs.Forms.{verifierFormed}
+use Rattle.s256.specs.Rule.{matches}
+use Rattle.ledger.specs.Limits.{tokenLifetime}
+use Rattle.ledger.specs.Fields.{records, rec, inState, challenge, withRecord, withClock}
+use Rattle.ledger.specs.Checks.{isCode, expired, taken}
+use Rattle.ledger.specs.Write.{redeemed}
+use Rattle.ledger.specs.declared.state.State.the-variants.{Redeemed}
+use Rattle.clients.specs.Sound.{sound as tableSound}
+use Rattle.clients.specs.Known.{isKnown}
+use Rattle.desk.specs.Answers.{answerOf}
+use Rattle.desk.specs.Checks.{Check, _when_, first, begins}
+use Rattle.desk.specs.Push.{Outcome, left, concludes}
+use Rattle.desk.specs.Requests.{TokenRequest}
+use Rattle.desk.specs.declared.answer.Refusal.the-variants.{
+  TableUnsound,
+  ClientUnknown,
+  IllFormed,
+  FreshTaken,
+  RecordExpired,
+  NoKey,
+  NoCode,
+  CodeRedeemed,
+  VerifierDiffers,
+}
+
+-- where the record in state 2 or 3 with this code and client id is
+abbrev pub codeAt : List ℕ → TokenRequest → ℕ
+codeAt l q = place (isCode (q .code) (q .client)) (records l)
+
+-- the checks, in order, k being that place
+unfoldable pub tokenChecks : List ℕ → ℕ → List ℕ → TokenRequest → ℕ → List Check
+tokenChecks l t table q k =
+    begins l t
+    ((TableUnsound when not (tableSound table))
+    ∷ (ClientUnknown when not (isKnown table (q .client) (q .key)))
+    ∷ (NoKey when zeros (q .presented))
+    ∷ (IllFormed when not (verifierFormed (q .verifier)))
+    ∷ (NoCode when not (some (isCode (q .code) (q .client)) (records l)))
+    ∷ (CodeRedeemed when inState Redeemed (rec l k))
+    ∷ (RecordExpired when expired t (rec l k))
+    ∷ (VerifierDiffers when not (matches (q .verifier) (challenge (rec l k))))
+    ∷ (FreshTaken when taken l (q .fresh))
+    ∷ [])
+
+-- "The record becomes state 3: token = fresh, the presented key bound, expiry = now + 300. The code stays in it."
+unfoldable pub tokenRecord : ℕ → TokenRequest → List ℕ → List ℕ
+tokenRecord t q r = redeemed (t + tokenLifetime) (q .fresh) (q .presented) r
+
+unfoldable pub tokenAt : List ℕ → ℕ → TokenRequest → ℕ → Outcome
+tokenAt l t q k = left (answerOf (tokenRecord t q (rec l k))) (withClock t (withRecord l k (tokenRecord t q (rec l k))))
+
+unfoldable pub token : List ℕ → ℕ → List ℕ → TokenRequest → Outcome
+token l t table q = concludes (first (tokenChecks l t table q (codeAt l q))) l (tokenAt l t q (codeAt l q))

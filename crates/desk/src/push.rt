@@ -1,0 +1,96 @@
+// Push: a buyer's program leaves its request and gets a reference.
+ghost use mathlib.Core.Path.{_≡_};
+ghost use Prim.Native.Nat.{_+_, _<_};
+ghost use Rattle.ledger.specs.Write.{pushed};
+ghost use Rattle.desk.specs.Answers.{answerOf};
+ghost use Rattle.desk.specs.Push.{left, push};
+use super::answer::Answer;
+use super::answer::Refusal;
+use super::check;
+use super::check::Bits;
+use super::check::Told;
+use clients::known::Known;
+use clients::table::Table;
+use ledger::clock::Timing;
+use ledger::clock::next_number;
+use ledger::clock::set_clock;
+use ledger::clock::set_next;
+use ledger::find::Found;
+use ledger::fresh::Freshness;
+use ledger::limit::Ledger;
+use ledger::limit::Reference;
+use ledger::sound::Soundness;
+
+// Writes a push into its record, and answers what the record then has.
+fn enter(
+    r: &mut [u8],
+    scope: u32,
+    grant: u64,
+    expiry: u64,
+    client: &[u8; 16],
+    challenge: &[u8],
+    fresh: &[u8; 32],
+    redirect: &[u8],
+) -> Answer
+    ensures { λ a. ⌜ (now (r .exit) ≡ pushed scope grant expiry (now (client .entry)) (now (challenge .entry)) (now (fresh .entry)) (now (redirect .entry)) (now (r .entry))) × (a ≡ answerOf (now (r .exit))) ⌝ }
+{
+    ledger::write::pushed(r, scope, grant, expiry, client, challenge, fresh, redirect);
+    Answer::of(r)
+}
+
+pub fn push(
+    ledger: &mut [u8],
+    time: u64,
+    table: &[u8],
+    client: &[u8; 16],
+    key: &[u8; 32],
+    scope: u32,
+    challenge: &[u8],
+    redirect: &[u8],
+    fresh: &[u8; 32],
+) -> Answer
+    ensures { λ r. ⌜ left r (now (ledger .exit)) ≡ push (now (ledger .entry)) time (now (table .entry)) (record { client = now (client .entry); key = now (key .entry); scope = scope; challenge = now (challenge .entry); redirect = now (redirect .entry); fresh = now (fresh .entry) }) ⌝ }
+{
+    let Soundness::Sound(_) = ledger::sound::check(ledger) else {
+        return Answer::refused(Refusal::LedgerUnsound);
+    };
+    let Timing::Timely = ledger::clock::check(ledger, time) else {
+        return Answer::refused(Refusal::TimeWrong);
+    };
+    let Table::Sound = clients::table::check(table) else {
+        return Answer::refused(Refusal::TableUnsound);
+    };
+    let Known::At(asker) = clients::known::find(table, client, key) else {
+        return Answer::refused(Refusal::ClientUnknown);
+    };
+    let Told::Passed = check::texts(redirect, challenge) else {
+        return Answer::refused(Refusal::IllFormed);
+    };
+    let Bits::Granted(bits) = check::scope(scope, clients::record::permitted(table, asker)) else {
+        return Answer::refused(Refusal::ScopeRefused);
+    };
+    let Freshness::Fresh = ledger::fresh::check(ledger, fresh) else {
+        return Answer::refused(Refusal::FreshTaken);
+    };
+    let Found::At(k) = ledger::find::free(ledger) else {
+        return Answer::refused(Refusal::LedgerFull);
+    };
+    let number = next_number(ledger);
+    let Told::Passed = check::number(number) else {
+        return Answer::refused(Refusal::NumbersSpent);
+    };
+    let a = Ledger::HEAD + k * Ledger::RECORD;
+    let answer = enter(
+        &mut ledger[a..a + Ledger::RECORD],
+        bits,
+        number,
+        time + Reference::LIFETIME,
+        client,
+        challenge,
+        fresh,
+        redirect,
+    );
+    set_next(ledger, number + 1);
+    set_clock(ledger, time);
+    answer
+}
