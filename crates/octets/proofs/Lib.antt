@@ -4,3 +4,4 @@ pub mod Lists
 pub mod Numbers
 pub mod Parts
 pub mod Tabulate
+pub mod Bytes
