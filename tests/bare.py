@@ -53,7 +53,7 @@ ARRAY = re.compile(r"(\[[^\[\];]*;)\s*" + LITERAL + r"\s*\]")
 IMPL = re.compile(r"^\s*impl\b(?:<[^>]*>)?\s+(\w+)", re.M)
 CONST = re.compile(r"\bconst\s+(\w+)\s*:(?:\[[^\]]*\]|[^=;\[])*=((?:\[[^\]]*\]|[^;\[])*);")
 MOST_WORD = re.compile(r"\bu64::MAX\b")
-BYTE = re.compile(r"%\s*256(?!\w)")  # the remainder that a byte holds, not a record's size
+BYTE = re.compile(r"%\s*256(?!\w)|\(\w+ < 256\)")  # the remainder that a byte holds and a byte's bound, not a record's size
 
 
 def blank(text):
@@ -166,6 +166,7 @@ SAMPLES = [
     ("ledger/src/b.rt", "impl Token {\n    const LIFETIME: u64 = 300;\n}\nimpl Clock {\n    pub const LIMIT: u64 = 0x100_0000_0000;\n}", []),
     ("ledger/src/c.rt", "fn f(r: &[u8])\n    requires { ⌜ length (now r) ≡ 256 ⌝ }\n{ }", [256]),
     ("ledger/src/d.rt", "fn f(n: usize) -> u8 { (n % 256) as u8 }\nfn g(k: usize) -> usize { k * 256 }", [256]),
+    ("ledger/src/e.rt", "fn f(n: u8) -> usize\n    ensures { λ r. ⌜ (r ≡ n) × (r < 256) ⌝ }\nfn g(s: &[u8])\n    requires { ⌜ length (now s) < 256 ⌝ }", [256]),
     ("clients/src/a.rt", "impl Client {\n    const LIFE: u64 = 300;\n    const IDS: [u8; 64] = [0; 64];\n}\nfn f() -> u64 { 60 }", []),
     ("sha256/src/a.rt", "fn f(w: [u32; 64], i: usize) -> u32 { if i < 64 { w[i] } else { 128 } }", []),
     ("ledger/specs/Limits.antt", "abbrev pub clockLimit : ℕ\nclockLimit = 2 ^ 40\ncodeLife = 60", []),

@@ -1,9 +1,10 @@
 #!/usr/bin/env python3
-"""The lines that crates/vectors must write, made by Python's own SHA-256.
+"""The lines that crates/vectors must write, made by Python's own SHA-256 and base64.
 
   tests/vectors.py print   the expected lines
-  tests/vectors.py check   compare crates/vectors/stdout with them, and the published digests with both
+  tests/vectors.py check   compare crates/vectors/stdout with them, and the published digests and text with both
 """
+import base64
 import hashlib
 import pathlib
 import sys
@@ -22,6 +23,9 @@ PUBLISHED = {
         118, 168, 120, 173, 109, 241, 68, 86, 110, 225, 137, 74, 203, 112, 249, 195,
     ]).hex(),
 }
+# The texts that they print: the challenge of RFC 7636, Appendix B, for the verifier beside it.
+VERIFIER = b"dBjftJeZ4CVP-mB92K27uhbUJU1p1r_wW1gFWFOEjXk"
+PUBLISHED_TEXT = {"rfc7636-verifier": "E9Melhoa2OwvFrEMTJguCHaoeK1t8URWbuGJSstw-cM"}
 
 
 def messages():
@@ -31,14 +35,14 @@ def messages():
     yield "fips-896", (b"abcdefghbcdefghicdefghijdefghijkefghijklfghijklmghijklmn"
                        b"hijklmnoijklmnopjklmnopqklmnopqrlmnopqrsmnopqrstnopqrstu")
     yield "fips-million", b"a" * 1_000_000
-    yield "rfc7636-verifier", b"dBjftJeZ4CVP-mB92K27uhbUJU1p1r_wW1gFWFOEjXk"
+    yield "rfc7636-verifier", VERIFIER
     for n in range(131):
         yield f"length-{n}", bytes((7 * i + 3) % 256 for i in range(n))
 
 
 def columns(digest):
-    """The texts of a digest, a column each: hexadecimal; a further text is a further column here."""
-    return [digest.hex()]
+    """The texts of a digest, a column each: hexadecimal, and base64url without padding."""
+    return [digest.hex(), base64.urlsafe_b64encode(digest).rstrip(b"=").decode()]
 
 
 def expected():
@@ -61,9 +65,10 @@ def check():
     hold(f"{len(written)} lines written, {len(lines)} expected", len(written) == len(lines))
     for i, line in enumerate(lines):
         hold(line, i < len(written) and written[i] == line)
-    digests = {w[0]: w[1] for w in (line.split(" ") for line in written) if len(w) > 1}
-    for label, text in PUBLISHED.items():
-        hold(f"{label}, published", digests.get(label) == text)
+    texts = {label: words for label, *words in (line.split(" ") for line in written)}
+    for column, published in enumerate((PUBLISHED, PUBLISHED_TEXT)):
+        for label, text in published.items():
+            hold(f"{label}, published", texts.get(label, [])[column:column + 1] == [text])
     print(f"{passed} passed, {failed} failed")
     return 1 if failed else 0
 

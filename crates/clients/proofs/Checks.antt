@@ -1,12 +1,11 @@
 -- Laws by which the code's order of checks 3 and 4 gives their definitions. Assumes nothing.
-use Prim.Native.Nat.{ℕ, suc, _<_, _≤_}
+use Prim.Native.Nat.{ℕ, _<_, _≤_}
 use native.Mathlib.Omega.{arith}
 use mathlib.Core.Path.{_≡_, refl, ap, _∙_}
-use mathlib.Core.Bool.{Bool, true, false, _&&_, _||_, cond, and-false}
-use mathlib.Core.List.{List, [], _∷_}
-use lib.ListN.{length}
-use Rattle.octets.specs.Lists.{every, some, place}
-use Rattle.octets.proofs.Lists.{place-lt}
+use mathlib.Core.Bool.{Bool, true, false, _&&_, and-false}
+use mathlib.Core.List.{List}
+use Rattle.octets.specs.Lists.{every, some}
+use Rattle.octets.proofs.Lists.{every-and, place-lt, place-some}
 use Rattle.octets.proofs.Tests.{false-of}
 use Rattle.clients.specs.Fields.{clients, client, entries}
 use Rattle.clients.specs.Sound.{lengthRight, idGiven, idsGiven, keyGiven, keysGiven, idsDistinct, restZero, restsZero, sound, soundRecord}
@@ -15,17 +14,6 @@ use Rattle.clients.specs.declared.known.Known.the-variants.{At, Unknown}
 use Rattle.clients.proofs.Entries.{length-entries}
 
 -- ---- check 3: the rules of one record in one pass, the pairs last
-
-swap-and : (a b c d : Bool) → ((a && b) && (c && d)) ≡ ((a && c) && (b && d))
-swap-and false b c d = refl
-swap-and true true c d = refl
-swap-and true false true d = refl
-swap-and true false false d = refl
-
--- two rules hold of all where their conjunction does
-pub every-and : {A : Type 0} (r p q : A → Bool) → ((x : A) → r x ≡ (p x && q x)) → (l : List A) → every r l ≡ (every p l && every q l)
-every-and r p q f [] = refl
-every-and r p q f (x ∷ xs) = rw (f x, every-and r p q f xs) (swap-and (p x) (q x) (every p xs) (every q xs))
 
 record-rules : (l : List (List ℕ)) → every soundRecord l ≡ (every idGiven l && (every keyGiven l && every restZero l))
 unfolding soundRecord
@@ -48,14 +36,6 @@ sound-order t =
     (ap (λ (b : Bool). lengthRight t && b) (pairs-last (every idGiven (entries t)) (every keyGiven (entries t)) (idsDistinct t) (every restZero (entries t))))
 
 -- ---- check 4: the id first, then the key
-
--- a place inside: some passes
-place-some : {A : Type 0} (q : A → Bool) (l : List A) → place q l < length l → some q l ≡ true
-place-some q [] h = absurd (omega arith)
-place-some q (x ∷ xs) h =
-    (elim (q x) as (λ (b : Bool). cond b 0 (suc (place q xs)) < suc (length xs) → (b || some q xs) ≡ true)
-    [ true ↦ λ h′. refl | false ↦ λ h′. place-some q xs (omega arith) ])
-    h
 
 module _ (t v : List ℕ) where
   pub id-nowhere : clients t ≤ placeOf t v → some (hasId v) (entries t) ≡ false

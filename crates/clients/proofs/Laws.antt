@@ -10,8 +10,8 @@ use lib.ListN.{length}
 use borrow.Author.Tests.{eqb-true, leb-true, ltb-true, ltb-false, eq-eqb, le-leb}
 use Rattle.octets.specs.Lists.{some}
 use Rattle.octets.specs.Parts.{blank, zeros}
-use Rattle.octets.proofs.Lists.{place-lt, place-ok, place-first}
-use Rattle.octets.proofs.Parts.{zeros-eq, zeros-blank, same-eq}
+use Rattle.octets.proofs.Lists.{place-lt, place-ok, place-first, place-is, none-inside, apart-inside, apart-of-inside}
+use Rattle.octets.proofs.Parts.{zeros-eq, zeros-blank, same-eq, same-of, differ-is, differ-of, given-is, given-of}
 use Rattle.octets.proofs.Tests.{both, both-true, false-of}
 use Rattle.clients.specs.Limits.{leastClients, mostClients, clientSize}
 use Rattle.clients.specs.Fields.{clients, client, entries, id, authKey, rest}
@@ -19,9 +19,7 @@ use Rattle.clients.specs.Sound.{lengthRight, idGiven, idsGiven, keyGiven
 use Rattle.clients.specs.Known.{hasId, hasKey, placeOf, atIf, isKnown, known}
 use Rattle.clients.specs.declared.table.Table.the-variants.{Sound, Unsound}
 use Rattle.clients.specs.declared.known.Known.the-variants.{At, Unknown}
-use Rattle.clients.proofs.Bytes.{given-is, given-of, same-of, differ-is, differ-of}
 use Rattle.clients.proofs.Entries.{length-entries, entry-at, field-length, at-each, of-each}
-use Rattle.clients.proofs.Inside.{none-inside, place-is, apart-inside, apart-of-inside}
 use Rattle.clients.proofs.Checks.{id-nowhere, id-somewhere, no-such-id, key-differs, key-agrees}
 
 -- ---- check 3

@@ -1,6 +1,4 @@
 -- The laws of the client table: Laws is what other crates read, the others are what it and the functions rest on.
-pub mod Bytes
 pub mod Entries
-pub mod Inside
 pub mod Checks
 pub mod Laws

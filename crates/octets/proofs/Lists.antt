@@ -11,7 +11,7 @@ use lib.ListN.{length, getD, drop, set, replicate, drop-of-length-le}
 use lib.Seq.{drop-cons, getD-set-same, getD-set-other}
 use borrow.Author.Tests.{not-true, not-false}
 use Rattle.octets.specs.Lists.{bit, every, some, count, place, apart}
-use Rattle.octets.proofs.Tests.{both, false-of, iff-eq, bit-and}
+use Rattle.octets.proofs.Tests.{both, swap-and, false-of, iff-eq, bit-and}
 
 -- ---- a loop over the elements from k on
 
@@ -77,6 +77,11 @@ module _ {A : Type 0} (q : A → Bool) where
   every-set (x ∷ xs) zero a d e h = rw (h, both (q x) (every q xs) e .1)
   every-set (x ∷ xs) (suc i) a d e h = rw (both (q x) (every q xs) e .0, every-set xs i a d (both (q x) (every q xs) e .1) h)
 
+  -- two tests pass of all where their conjunction does
+  pub every-and : (p r : A → Bool) → ((x : A) → q x ≡ (p x && r x)) → (l : List A) → every q l ≡ (every p l && every r l)
+  every-and p r f [] = refl
+  every-and p r f (x ∷ xs) = rw (f x, every-and p r f xs) (swap-and (p x) (r x) (every p xs) (every r xs))
+
   -- some passes: the first is inside, passes, and none before it does
   pub place-lt : (l : List A) → some q l ≡ true → place q l < length l
   place-lt [] e = absurd (false≢true e)
@@ -84,6 +89,13 @@ module _ {A : Type 0} (q : A → Bool) where
       (elim (q x) as (λ (b : Bool). (b || some q xs) ≡ true → cond b 0 (suc (place q xs)) < suc (length xs))
       [ true ↦ λ e′. omega arith | false ↦ λ e′. omega (arith, place-lt xs e′) ])
       e
+
+  pub place-some : (l : List A) → place q l < length l → some q l ≡ true
+  place-some [] h = absurd (omega arith)
+  place-some (x ∷ xs) h =
+      (elim (q x) as (λ (b : Bool). cond b 0 (suc (place q xs)) < suc (length xs) → (b || some q xs) ≡ true)
+      [ true ↦ λ h′. refl | false ↦ λ h′. place-some xs (omega arith) ])
+      h
 
   pub place-ok : (l : List A) (d : A) → some q l ≡ true → q (getD l (place q l) d) ≡ true
   place-ok [] d e = absurd (false≢true e)
@@ -135,6 +147,29 @@ module _ {A : Type 0} (q : A → Bool) where
       go false p zero e ih = absurd (true≢false (sym e ∙ p))
       go false p (suc j) e ih = ap suc (ih j e)
 
+-- ---- at the places inside a list, whatever the default
+
+module _ {A : Type 0} (q : A → Bool) (d : A) where
+  pub some-inside : (l : List A) (j : ℕ) → j < length l → q (getD l j d) ≡ true → some q l ≡ true
+  some-inside [] j h e = absurd (omega arith)
+  some-inside (x ∷ xs) zero h e = rw e
+  some-inside (x ∷ xs) (suc j) h e =
+      elim (q x) as (λ (b : Bool). (b || some q xs) ≡ true) [ true ↦ refl | false ↦ some-inside xs j (omega arith) e ]
+
+  pub none-inside : (l : List A) → some q l ≡ false → (j : ℕ) → j < length l → q (getD l j d) ≡ false
+  none-inside l e j h = false-of _ (λ t. true≢false (sym (some-inside l j h t) ∙ e))
+
+  pub none-of-inside : (l : List A) → ((j : ℕ) → j < length l → q (getD l j d) ≡ false) → some q l ≡ false
+  none-of-inside [] f = refl
+  none-of-inside (x ∷ xs) f = rw (f 0 (omega arith), none-of-inside xs (λ j h. f (suc j) (omega arith)))
+
+  -- the place that passes while none before it does
+  pub place-is : (l : List A) (k : ℕ) → k < length l → q (getD l k d) ≡ true → ((j : ℕ) → j < k → q (getD l j d) ≡ false) → place q l ≡ k
+  place-is [] k h e f = absurd (omega arith)
+  place-is (x ∷ xs) zero h e f = rw e
+  place-is (x ∷ xs) (suc k) h e f =
+      rw (f 0 (omega arith)) (ap suc (place-is xs k (omega arith) e (λ j i. f (suc j) (omega arith))))
+
 -- ---- counts
 
 module _ {A : Type 0} (q : A → Bool) where
@@ -167,31 +202,37 @@ count-map q f (x ∷ xs) = omega (arith, count-map q f xs)
 
 module _ {A : Type 0} (clash : A → A → Bool) (d : A) where
   -- any two places are apart
+  pub apart-inside : (l : List A) → apart clash l ≡ true → (i j : ℕ) → i < j → j < length l → clash (getD l i d) (getD l j d) ≡ false
+  apart-inside [] e i j h k = absurd (omega arith)
+  apart-inside (x ∷ xs) e i zero h k = absurd (omega arith)
+  apart-inside (x ∷ xs) e zero (suc j) h k =
+      none-inside (clash x) d xs (not-true _ (both (not (some (clash x) xs)) (apart clash xs) e .0)) j (omega arith)
+  apart-inside (x ∷ xs) e (suc i) (suc j) h k =
+      apart-inside xs (both (not (some (clash x) xs)) (apart clash xs) e .1) i j (omega arith) (omega arith)
+
+  pub apart-of-inside : (l : List A) → ((i j : ℕ) → i < j → j < length l → clash (getD l i d) (getD l j d) ≡ false) → apart clash l ≡ true
+  apart-of-inside [] f = refl
+  apart-of-inside (x ∷ xs) f =
+      rw (
+        none-of-inside (clash x) d xs (λ j h. f 0 (suc j) (omega arith) (omega arith)),
+        apart-of-inside xs (λ i j h k. f (suc i) (suc j) (omega arith) (omega arith)),
+      )
+
+  -- the same under a default that clashes with nothing
   pub apart-at : (l : List A) → ((x : A) → clash x d ≡ false) → apart clash l ≡ true → (i j : ℕ) → i < j → j < length l → clash (getD l i d) (getD l j d) ≡ false
-  apart-at [] z e i j h k = absurd (omega arith)
-  apart-at (x ∷ xs) z e i zero h k = absurd (omega arith)
-  apart-at (x ∷ xs) z e zero (suc j) h k =
-      none-at (clash x) xs d (z x) (not-true _ (both (not (some (clash x) xs)) (apart clash xs) e .0)) j
-  apart-at (x ∷ xs) z e (suc i) (suc j) h k =
-      apart-at xs z (both (not (some (clash x) xs)) (apart clash xs) e .1) i j (omega arith) (omega arith)
+  apart-at l z = apart-inside l
 
   pub apart-of : (l : List A) → ((x : A) → clash x d ≡ false) → ((i j : ℕ) → i < j → j < length l → clash (getD l i d) (getD l j d) ≡ false) → apart clash l ≡ true
-  apart-of [] z f = refl
-  apart-of (x ∷ xs) z f =
-      rw (none-in xs (λ j h. f 0 (suc j) (omega arith) (omega arith)), apart-of xs z (λ i j h k. f (suc i) (suc j) (omega arith) (omega arith)))
-    where
-      none-in : (ys : List A) → ((j : ℕ) → j < length ys → clash x (getD ys j d) ≡ false) → some (clash x) ys ≡ false
-      none-in [] g = refl
-      none-in (y ∷ ys) g = rw (g 0 (omega arith), none-in ys (λ j h. g (suc j) (omega arith)))
+  apart-of l z = apart-of-inside l
 
   -- a store keeps the elements apart where what is stored is apart from each of the others
   pub apart-set : (l : List A) (k : ℕ) (t : A) → ((x : A) → clash x d ≡ false) → k < length l → apart clash l ≡ true
       → ((j : ℕ) → j ≢ k → j < length l → (clash t (getD l j d) ≡ false) × (clash (getD l j d) t ≡ false))
       → length (set l k t) ≡ length l → apart clash (set l k t) ≡ true
-  apart-set l k t z b e f s = apart-of (set l k t) z (λ i j h m. go i j h (rw s at m) (ℕ-discrete i k) (ℕ-discrete j k))
+  apart-set l k t z b e f s = apart-of-inside (set l k t) (λ i j h m. go i j h (rw s at m) (ℕ-discrete i k) (ℕ-discrete j k))
     where
       go : (i j : ℕ) → i < j → j < length l → Dec (i ≡ k) → Dec (j ≡ k) → clash (getD (set l k t) i d) (getD (set l k t) j d) ≡ false
       go i j h m (yes p) (yes q) = absurd (omega arith)
       go i j h m (yes p) (no q) = rw (p, getD-set-same l k t d b, getD-set-other l k j t d q) (f j q m .0)
       go i j h m (no p) (yes q) = rw (q, getD-set-same l k t d b, getD-set-other l k i t d p) (f i p (omega arith) .1)
-      go i j h m (no p) (no q) = rw (getD-set-other l k i t d p, getD-set-other l k j t d q) (apart-at l z e i j h m)
+      go i j h m (no p) (no q) = rw (getD-set-other l k i t d p, getD-set-other l k j t d q) (apart-inside l e i j h m)

@@ -1,7 +1,8 @@
 -- Laws of parts, splices, zeros and equality. Assumes nothing.
 use mathlib.Core.Path.{_≡_, refl, sym, ap, _∙_}
 use mathlib.Core.List.{List, [], _∷_, _++_, append-assoc, append-nil}
-use mathlib.Core.Bool.{Bool, true, false, _&&_, false≢true, and-false}
+use mathlib.Core.Bool.{Bool, true, false, not, _&&_, false≢true, true≢false, and-false}
+use mathlib.Core.Logic.{_≢_}
 use Prim.Native.Nat.{ℕ, zero, suc, _+_, _-_, _≤_, _<_, min}
 use native.Mathlib.Nat.{min-eq-left, min-eq-right}
 use native.Mathlib.Numerals.{add-one}
@@ -9,8 +10,8 @@ use native.Mathlib.Omega.{arith}
 use lib.Dec.{eqb, leb}
 use lib.ListN.{length, getD, take, drop, set, replicate, drop-of-length-le, length-append, length-take, length-drop, length-replicate, take-append-drop}
 use lib.Seq.{drop-cons, take-all, take-at, drop-at, drop-append-le, take-append-le, drop-append-add, drop-drop, take-suc, take-suc-set, drop-nil, take-nil, drop-set-lt}
-use borrow.Author.Tests.{eq-eqb, ne-eqb, eqb-true, leb-true, leb-false}
-use Rattle.octets.proofs.Tests.{both}
+use borrow.Author.Tests.{eq-eqb, ne-eqb, eqb-true, leb-true, leb-false, not-true}
+use Rattle.octets.proofs.Tests.{both, false-of}
 use Rattle.octets.specs.Parts.{part, splice, laid, put, blank, zeros, same}
 
 -- ---- loops that look at each byte
@@ -70,6 +71,15 @@ unfolding same
 same-refl [] = refl
 same-refl (x ∷ xs) = rw (eq-eqb x x refl) (same-refl xs)
 
+pub same-of : (s t : List ℕ) → s ≡ t → same s t ≡ true
+same-of s t e = ap (λ (x : List ℕ). same s x) (sym e) ∙ same-refl s
+
+pub differ-is : (s t : List ℕ) → same s t ≡ false → s ≢ t
+differ-is s t f e = true≢false (sym (same-of s t e) ∙ f)
+
+pub differ-of : (s t : List ℕ) → s ≢ t → same s t ≡ false
+differ-of s t f = false-of _ (λ e. f (same-eq s t e))
+
 -- all zeros says which list it is
 pub zeros-eq : (s : List ℕ) → zeros s ≡ true → s ≡ blank (length s)
 unfolding zeros blank
@@ -93,6 +103,13 @@ pub zeros-blank : (n : ℕ) → zeros (blank n) ≡ true
 unfolding zeros blank
 zeros-blank zero = refl
 zeros-blank (suc n) = zeros-blank n
+
+-- not all zeros
+pub given-is : (s : List ℕ) (n : ℕ) → not (zeros s) ≡ true → s ≢ blank n
+given-is s n g z = true≢false (sym (zeros-blank n) ∙ ap zeros (sym z) ∙ not-true _ g)
+
+pub given-of : (s : List ℕ) (n : ℕ) → length s ≡ n → s ≢ blank n → not (zeros s) ≡ true
+given-of s n l f = ap not (false-of (zeros s) (λ e. f (zeros-eq s e ∙ ap blank l)))
 
 pub length-blank : (n : ℕ) → length (blank n) ≡ n
 unfolding blank
@@ -137,6 +154,25 @@ module _ (l : List ℕ) (a n : ℕ) (xs : List ℕ) (sized : length xs ≡ n) (w
       let e : length (take a l ++ xs) ≡ a + n = simp (length-append, length-take) (omega arith) in
       let k : a + n + (b - (a + n)) ≡ b = omega arith in
       rw (← append-assoc (take a l) xs (drop n (drop a l)), drop-back (take a l ++ xs) (drop n (drop a l)) (a + n) b e h, drop-drop n a l, drop-drop (b - (a + n)) (a + n) l, k)
+
+splice-front : (p y : List ℕ) (a n : ℕ) (xs : List ℕ) → a + n ≤ length p → splice (p ++ y) a n xs ≡ splice p a n xs ++ y
+splice-front p y a n xs h =
+    let h1 : a ≤ length p = omega arith in
+    let h2 : n ≤ length (drop a p) = simp length-drop (omega arith) in
+    rw (take-append-le a p y h1, drop-append-le a p y h1, drop-append-le n (drop a p) y h2)
+    (ap (λ (t : List ℕ). take a p ++ t) (sym (append-assoc xs (drop n (drop a p)) y)) ∙ sym (append-assoc (take a p) (xs ++ drop n (drop a p)) y))
+
+-- two splices that do not overlap may change places
+pub splice-swap : (l : List ℕ) (a n b m : ℕ) (xs ys : List ℕ) → length xs ≡ n → a + n ≤ b → b ≤ length l
+    → splice (splice l a n xs) b m ys ≡ splice (splice l b m ys) a n xs
+splice-swap l a n b m xs ys sized apart within =
+    let e : length (take b l) ≡ b = simp length-take (omega arith) in
+    let h : a + n ≤ length (take b l) = rw e apart in
+    let f : splice l a n xs ≡ splice (take b l) a n xs ++ drop b l = ap (λ (t : List ℕ). splice t a n xs) (sym (take-append-drop b l)) ∙ splice-front (take b l) (drop b l) a n xs h in
+    let k : length (splice (take b l) a n xs) ≡ b = splice-length (take b l) a n xs sized h ∙ e in
+    ap (λ (t : List ℕ). splice t b m ys) f
+    ∙ rw (take-at (splice (take b l) a n xs) (drop b l) b k, drop-at (splice (take b l) a n xs) (drop b l) b k)
+    (sym (splice-front (take b l) (ys ++ drop m (drop b l)) a n xs h))
 
 -- ---- what is laid over a part
 

@@ -18,6 +18,12 @@ and-r a b e = both a b e .1
 pub both-true : (a b : Bool) → a ≡ true → b ≡ true → (a && b) ≡ true
 both-true a b e f = rw (e, f)
 
+pub swap-and : (a b c d : Bool) → ((a && b) && (c && d)) ≡ ((a && c) && (b && d))
+swap-and false b c d = refl
+swap-and true true c d = refl
+swap-and true false true d = refl
+swap-and true false false d = refl
+
 pub false-of : (b : Bool) → (b ≡ true → ⊥) → b ≡ false
 false-of true f = absurd (f refl)
 false-of false f = refl

@@ -11,10 +11,11 @@ use lib.ListN.{length, getD, length-append, List·getD-append, List·getD-eq-def
 use lib.Seq.{getD-append-add, ext-getD}
 use Rattle.octets.specs.Lists.{tabulate}
 use Rattle.octets.specs.Numbers.{digits}
+use Rattle.octets.proofs.Numbers.{length-digits}
 use Rattle.octets.proofs.Tabulate.{length-tabulate, getD-tabulate}
 use Rattle.sha256.specs.Pad.{pad, blocks, block}
 use Rattle.sha256.specs.Hash.{added, compress, hashValue, joined, sha256}
-use Rattle.sha256.proofs.Digits.{length-digits, getD-digits}
+use Rattle.sha256.proofs.Digits.{getD-digits}
 
 below : (i n : ℕ) → (i < n) ⊎ (n ≤ i)
 below i n = go (decLt i n)

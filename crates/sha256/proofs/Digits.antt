@@ -3,11 +3,11 @@ use Prim.Native.Nat.{ℕ, zero, suc, _+_, _-_, _*_, _/_, _%_, _^_, _≤_, _<_}
 use mathlib.Core.Path.{_≡_, refl, ap, sym, _∙_}
 use mathlib.Core.List.{List, [], _∷_, _++_}
 use native.Mathlib.Omega.{arith}
-use lib.ListN.{length, getD}
+use lib.ListN.{getD}
 use lib.Pow.{shr-shr, field, mod-mod-pow}
 use Rattle.octets.specs.Lists.{tabulate}
 use Rattle.octets.specs.Numbers.{digits}
-use Rattle.octets.proofs.Tabulate.{length-tabulate, getD-tabulate, tabulate-same}
+use Rattle.octets.proofs.Tabulate.{getD-tabulate, tabulate-same}
 
 -- byte i of the n lowest of v
 abbrev pub digit : ℕ → ℕ → ℕ → ℕ
@@ -29,9 +29,6 @@ digits-table zero v = refl
 digits-table (suc n) v =
     rw (digits-table n (v / 256), digit-last n v)
     (ap (λ l. l ++ (digit (suc n) v n ∷ [])) (tabulate-same (digit n (v / 256)) (digit (suc n) v) n (digit-up n v)))
-
-pub length-digits : (n v : ℕ) → length (digits n v) ≡ n
-length-digits n v = rw (digits-table n v) (length-tabulate (digit n v) n)
 
 pub getD-digits : (n v i : ℕ) → i < n → getD (digits n v) i 0 ≡ digit n v i
 getD-digits n v i h = rw (digits-table n v) (getD-tabulate (digit n v) 0 n i h)

@@ -7,14 +7,12 @@ use lib.ListN.{length, getD, take, drop, length-append, length-take, length-drop
 use lib.Seq.{getD-append-add, getD-append-seam, take-append-le, drop-append-le}
 use Rattle.octets.specs.Numbers.{digits}
 use Rattle.octets.specs.Parts.{part, blank}
+use Rattle.octets.proofs.Numbers.{length-digits}
+use Rattle.octets.proofs.Parts.{length-blank}
 use Rattle.sha256.specs.Pad.{zeroBytes, pad, blocks, block}
-use Rattle.sha256.proofs.Digits.{length-digits, getD-digits, digit-low}
+use Rattle.sha256.proofs.Digits.{getD-digits, digit-low}
 
 -- ---- how long
-
-length-blank : (n : ℕ) → length (blank n) ≡ n
-unfolding blank
-length-blank n = length-replicate n 0
 
 pub length-pad : (m : List ℕ) → length (pad m) ≡ length m + (zeroBytes (length m) + 9)
 unfolding pad
@@ -30,11 +28,11 @@ pub blocks-of : (m : List ℕ) → blocks m ≡ (length m + 8) / 64 + 1
 unfolding blocks
 blocks-of m = omega (arith, length-pad m)
 
--- "l + 1 + k ≡ 448 mod 512", for the l bits of n bytes and the k zero bits that follow the bit 1
+-- the bits of n bytes, the bit 1 and the zero bits that follow it are 448 modulo 512
 pub zero-bits : (n : ℕ) → (8 * n + 1 + (7 + 8 * zeroBytes n)) % 512 ≡ 448
 zero-bits n = omega arith
 
--- "k is the smallest, non-negative solution"
+-- and no fewer zero bits are
 pub least-zero-bits : (n k : ℕ) → (8 * n + 1 + k) % 512 ≡ 448 → 7 + 8 * zeroBytes n ≤ k
 least-zero-bits n k h = omega arith
 

@@ -60,7 +60,7 @@ pub length-schedule : (b : List ℕ) → length (schedule b) ≡ 64
 unfolding schedule
 length-schedule b = length-words b 48
 
--- "W_t = M_t, 0 ≤ t ≤ 15"
+-- W_t = M_t, t from 0 to 15
 pub W-first : (b : List ℕ) (t : ℕ) → t < 16 → W b t ≡ wordAt b t
 unfolding schedule
 W-first b t h = first-word b t 48 h
@@ -71,7 +71,7 @@ W-next b t h k =
     let e : t ≡ 16 + (t - 16) = omega arith in
     rw e (later-word b (t - 16) 48 (omega arith))
 
--- "W_t = σ1(W_t-2) + W_t-7 + σ0(W_t-15) + W_t-16, 16 ≤ t ≤ 63"
+-- W_t = σ1(W_t-2) + W_t-7 + σ0(W_t-15) + W_t-16, t from 16 to 63
 pub W-later : (b : List ℕ) (t : ℕ) → 16 ≤ t → t < 64
     → W b t ≡ sum32 (sum32 (sum32 (σ1 (W b (t - 2))) (W b (t - 7))) (σ0 (W b (t - 15)))) (W b (t - 16))
 unfolding next

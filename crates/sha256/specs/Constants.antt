@@ -2,7 +2,7 @@
 use Prim.Native.Nat.{ℕ}
 use mathlib.Core.List.{List, [], _∷_}
 
--- 4.2.2: "sixty-four constant 32-bit words, K0, K1, .., K63"
+-- 4.2.2: the sixty-four constant words K_0, .., K_63
 unfoldable pub K : List ℕ
 K =
     0x428a2f98 ∷ 0x71374491 ∷ 0xb5c0fbcf ∷ 0xe9b5dba5 ∷ 0x3956c25b ∷ 0x59f111f1 ∷ 0x923f82a4 ∷ 0xab1c5ed5 ∷
@@ -15,7 +15,7 @@ K =
     0x748f82ee ∷ 0x78a5636f ∷ 0x84c87814 ∷ 0x8cc70208 ∷ 0x90befffa ∷ 0xa4506ceb ∷ 0xbef9a3f7 ∷ 0xc67178f2 ∷
     []
 
--- 5.3.3: "the initial hash value, H(0), shall consist of the following eight 32-bit words"
+-- 5.3.3: the eight words of the initial hash value H(0)
 abbrev pub initial : List ℕ
 initial =
     0x6a09e667 ∷ 0xbb67ae85 ∷ 0x3c6ef372 ∷ 0xa54ff53a ∷ 0x510e527f ∷ 0x9b05688c ∷ 0x1f83d9ab ∷ 0x5be0cd19 ∷

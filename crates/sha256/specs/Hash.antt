@@ -10,7 +10,7 @@ use Rattle.sha256.specs.Pad.{pad, blocks, block}
 use Rattle.sha256.specs.Schedule.{schedule}
 use Rattle.sha256.specs.Round.{rounds}
 
--- step 2: "Initialize the eight working variables, a, b, c, d, e, f, g, and h, with the (i-1)st hash value"
+-- step 2: the working variables a to h begin as the words of the hash value before
 abbrev pub working : List ℕ → Working
 working h =
     record {
@@ -24,7 +24,7 @@ working h =
       h = getD h 7 0;
     }
 
--- step 4: "Compute the ith intermediate hash value H(i): H0(i) = a + H0(i-1), .., H7(i) = h + H7(i-1)"
+-- step 4: the next hash value is a + H_0, .., h + H_7, sums modulo 2^32
 unfoldable pub added : Working → List ℕ → List ℕ
 added s h =
     sum32 (s .a) (getD h 0 0) ∷ sum32 (s .b) (getD h 1 0) ∷ sum32 (s .c) (getD h 2 0) ∷ sum32 (s .d) (getD h 3 0) ∷
@@ -40,11 +40,11 @@ unfoldable pub hashValue : List ℕ → ℕ → List ℕ
 hashValue p zero = initial
 hashValue p (suc i) = compress (hashValue p i) (block p i)
 
--- "H0(N) ‖ H1(N) ‖ .. ‖ H7(N)": words one after the other, four bytes each
+-- H_0 ‖ H_1 ‖ .. ‖ H_7: words one after the other, four bytes each
 unfoldable pub joined : List ℕ → List ℕ
 joined [] = []
 joined (w ∷ ws) = digits 4 w ++ joined ws
 
--- "the resulting 256-bit message digest of the message, M"
+-- the digest of the message m: the words of H(N), N its number of blocks
 unfoldable pub sha256 : List ℕ → List ℕ
 sha256 m = joined (hashValue (pad m) (blocks m))

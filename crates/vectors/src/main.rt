@@ -1,4 +1,4 @@
-// Writes the SHA-256 digests of outside vectors, a line a message: its label, then the digest's texts.
+// Writes the SHA-256 digests of outside vectors, a line a message: its label, then the digest in hexadecimal and in base64url.
 // The expected lines are those of another program, tests/vectors.py.
 mod messages;
 mod texts;
@@ -7,12 +7,16 @@ use libc::STDOUT_FILENO;
 use messages::million;
 use messages::pattern;
 use texts::digest_hex;
+use texts::digest_text;
 
-// The texts of a message's digest, a column each: hexadecimal; a further text is a further column here.
+// The texts of a message's digest, a column each.
 fn columns(m: &[u8]) {
     let h = digest_hex(m);
+    let t = digest_text(m);
     io::write_all(STDOUT_FILENO, b" ");
     io::write_all(STDOUT_FILENO, &h);
+    io::write_all(STDOUT_FILENO, b" ");
+    io::write_all(STDOUT_FILENO, &t);
     io::write_all(STDOUT_FILENO, b"\n");
 }
 

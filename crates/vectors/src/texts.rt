@@ -1,7 +1,8 @@
-// The text of a digest in lower-case hexadecimal.
+// The texts of a digest: in lower-case hexadecimal, and in base64url as a challenge is.
 ghost use mathlib.Core.Path.{_≡_};
 ghost use Prim.Native.Nat.{_<_};
 ghost use Rattle.sha256.specs.Hash.{sha256};
+ghost use Rattle.s256.specs.Base64url.{base64url};
 ghost use Rattle.vectors.specs.Texts.{glyph, nibble, hex};
 
 fn glyph(d: u8) -> u8
@@ -34,4 +35,10 @@ pub fn digest_hex(m: &[u8]) -> [u8; 64]
     ensures { λ r. ⌜ r ≡ hex (sha256 (now (m .entry))) ⌝ }
 {
     hex(sha256::digest(m))
+}
+
+pub fn digest_text(m: &[u8]) -> [u8; 43]
+    ensures { λ r. ⌜ r ≡ base64url (sha256 (now (m .entry))) ⌝ }
+{
+    s256::base64url::base64url(sha256::digest(m))
 }
