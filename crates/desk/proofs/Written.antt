@@ -5,15 +5,15 @@ use native.Mathlib.Omega.{arith}
 use mathlib.Core.Path.{_≡_, refl, sym, ap, _∙_}
 use mathlib.Core.Bool.{Bool, true, false, _||_, cond}
 use mathlib.Core.List.{List}
-use lib.Dec.{ltb, leb}
-use borrow.Author.Tests.{leb-true, leb-false}
+use lib.Dec.{eqb, ltb, leb}
+use borrow.Author.Tests.{leb-true, leb-false, eqb-false}
 use lib.ListN.{length}
 use Rattle.octets.proofs.Tests.{and-l, and-r}
 use Rattle.ledger.specs.Sound.{sized, sound}
 use Rattle.octets.specs.Lists.{some, place}
 use Rattle.octets.specs.Parts.{part, splice}
 use Rattle.octets.proofs.Lists.{place-lt}
-use Rattle.ledger.specs.Limits.{referenceLifetime, codeLifetime, tokenLifetime}
+use Rattle.ledger.specs.Limits.{referenceLifetime, codeLifetime, tokenLifetime, lastNumber}
 use Rattle.ledger.specs.Fields.{rec, slots, records, clock, nextNumber, grant, redirectLength, withRecord, withNext, withClock}
 use Rattle.ledger.specs.Checks.{untimely, found, isFree}
 use Rattle.ledger.specs.Write.{pushed, consented, redeemed, free}
@@ -65,16 +65,15 @@ module _ (l : List ℕ) (t k : ℕ) (inside : k < slots l) where
   pub lent-is : lent ≡ rec l k
   lent-is = whole-part l k inside .0
 
-  pub push-written : (table : List ℕ) (p : PushRequest) (bits number : ℕ) (x y z : List ℕ) (a : Answer)
-      → place isFree (records l) ≡ k → bits ≡ p .scope → number ≡ nextNumber l
-      → x ≡ pushed bits number (t + referenceLifetime) (p .client) (p .challenge) (p .fresh) (p .redirect) lent → a ≡ answerOf x
+  pub push-written : (bits number : ℕ) (id text new target x y z : List ℕ) (a : Answer)
+      → x ≡ pushed bits number (t + referenceLifetime) id text new target lent → a ≡ answerOf x
       → y ≡ withNext (number + 1) (splice l start (start + 256 - start) x) → z ≡ withClock t y
-      → left a z ≡ pushAt l t table p (place isFree (records l))
-  unfolding pushAt pushRecord
-  push-written table p bits number x y z a e hb hn hx ha hy hz =
-      let e1 : x ≡ pushed (p .scope) (nextNumber l) (t + referenceLifetime) (p .client) (p .challenge) (p .fresh) (p .redirect) (rec l k) = hx ∙ rw (hb, hn, lent-is) in
-      let e2 : y ≡ withNext (nextNumber l + 1) (withRecord l k x) = hy ∙ rw hn (ap (withNext (nextNumber l + 1)) (lent-back l k x x refl)) in
-      rw (e, hz, e2, ha, e1)
+      → left a z ≡ left (answerOf (pushed bits number (t + referenceLifetime) id text new target (rec l k)))
+      (withClock t (withNext (number + 1) (withRecord l k (pushed bits number (t + referenceLifetime) id text new target (rec l k)))))
+  push-written bits number id text new target x y z a hx ha hy hz =
+      let e1 : x ≡ pushed bits number (t + referenceLifetime) id text new target (rec l k) = hx ∙ rw lent-is in
+      let e2 : y ≡ withNext (number + 1) (withRecord l k x) = hy ∙ ap (withNext (number + 1)) (lent-back l k x x refl) in
+      rw (hz, e2, ha, e1)
 
   pub consent-written : (who : ℕ) (fresh out x z o : List ℕ) (n : ℕ) (a : Answer) (d : Decided)
       → n ≡ redirectLength lent → o ≡ handedOut lent out
@@ -97,16 +96,29 @@ module _ (l : List ℕ) (t k : ℕ) (inside : k < slots l) where
       let e2 : z ≡ withClock t (withRecord l k free) = hz ∙ ap (withClock t) (lent-back l k x free hx) in
       rw (hd, e2, ha, hn, ho, lent-is)
 
-  pub token-written : (q : TokenRequest) (x z : List ℕ) (a : Answer)
-      → codeAt l q ≡ k
-      → x ≡ redeemed (t + tokenLifetime) (q .fresh) (q .presented) lent → a ≡ answerOf x
+  pub token-written : (new key x z : List ℕ) (a : Answer)
+      → x ≡ redeemed (t + tokenLifetime) new key lent → a ≡ answerOf x
       → z ≡ withClock t (splice l start (start + 256 - start) x)
-      → left a z ≡ tokenAt l t q (codeAt l q)
-  unfolding tokenAt tokenRecord
-  token-written q x z a e hx ha hz =
-      let e1 : x ≡ redeemed (t + tokenLifetime) (q .fresh) (q .presented) (rec l k) = hx ∙ rw lent-is in
+      → left a z ≡ left (answerOf (redeemed (t + tokenLifetime) new key (rec l k))) (withClock t (withRecord l k (redeemed (t + tokenLifetime) new key (rec l k))))
+  token-written new key x z a hx ha hz =
+      let e1 : x ≡ redeemed (t + tokenLifetime) new key (rec l k) = hx ∙ rw lent-is in
       let e2 : z ≡ withClock t (withRecord l k x) = hz ∙ ap (withClock t) (lent-back l k x x refl) in
-      rw (e, e2, ha, e1)
+      rw (e2, ha, e1)
+
+-- what is written at the place found is what the definition says
+pub push-at : (l : List ℕ) (t : ℕ) (table : List ℕ) (p : PushRequest) (k bits number : ℕ) → place isFree (records l) ≡ k → bits ≡ p .scope → number ≡ nextNumber l
+    → left (answerOf (pushed bits number (t + referenceLifetime) (p .client) (p .challenge) (p .fresh) (p .redirect) (rec l k)))
+    (withClock t (withNext (number + 1) (withRecord l k (pushed bits number (t + referenceLifetime) (p .client) (p .challenge) (p .fresh) (p .redirect) (rec l k)))))
+    ≡ pushAt l t table p (place isFree (records l))
+unfolding pushAt pushRecord
+push-at l t table p k bits number e hb hn = rw (e, hb, hn)
+
+pub token-at : (l : List ℕ) (t : ℕ) (q : TokenRequest) (k : ℕ) → codeAt l q ≡ k
+    → left (answerOf (redeemed (t + tokenLifetime) (q .fresh) (q .presented) (rec l k)))
+    (withClock t (withRecord l k (redeemed (t + tokenLifetime) (q .fresh) (q .presented) (rec l k))))
+    ≡ tokenAt l t q (codeAt l q)
+unfolding tokenAt tokenRecord
+token-at l t q k e = rw e
 
 pub decide-yes : (l : List ℕ) (t : ℕ) (d : DecideRequest) (out : List ℕ) (k : ℕ) → d .yes ≡ true → referenceAt l d ≡ k
     → decideAt l t d out (referenceAt l d) ≡ consentAt l t (d .holder) (d .fresh) out k
@@ -142,3 +154,7 @@ sound-short l e =
     let a = and-l _ _ e in
     let b = and-r (leb 288 (length l)) _ a in
     leb-true (length l) 51232 (and-l (leb (length l) 51232) _ b)
+
+-- a next number that passed check 9 is below the last
+pub below-last : (m n : ℕ) → eqb m lastNumber ≡ false → n ≡ m → n < 2 ^ 64 → n < lastNumber
+below-last m n e h w = let ne = eqb-false m lastNumber e in omega (arith, ne)

@@ -1,6 +1,8 @@
 // Push: a buyer's program leaves its request and gets a reference.
 ghost use mathlib.Core.Path.{_≡_};
 ghost use Prim.Native.Nat.{_+_, _<_};
+ghost use Rattle.ledger.specs.Limits.{referenceLifetime, clockLimit, lastNumber};
+ghost use Rattle.ledger.specs.Fields.{rec, slots, withRecord, withNext, withClock};
 ghost use Rattle.ledger.specs.Write.{pushed};
 ghost use Rattle.desk.specs.Answers.{answerOf};
 ghost use Rattle.desk.specs.Push.{left, push};
@@ -36,6 +38,37 @@ fn enter(
 {
     ledger::write::pushed(r, scope, grant, expiry, client, challenge, fresh, redirect);
     Answer::of(r)
+}
+
+// Lends record k to be written, then writes the head: the next number and the clock.
+fn enter_at(
+    ledger: &mut [u8],
+    k: usize,
+    time: u64,
+    scope: u32,
+    number: u64,
+    client: &[u8; 16],
+    challenge: &[u8],
+    fresh: &[u8; 32],
+    redirect: &[u8],
+) -> Answer
+    requires { ⌜ (k < slots (now ledger)) × (time < clockLimit) × (number < lastNumber) ⌝ }
+    ensures { λ a. ⌜ left a (now (ledger .exit)) ≡ left (answerOf (pushed scope number (time + referenceLifetime) (now (client .entry)) (now (challenge .entry)) (now (fresh .entry)) (now (redirect .entry)) (rec (now (ledger .entry)) k))) (withClock time (withNext (number + 1) (withRecord (now (ledger .entry)) k (pushed scope number (time + referenceLifetime) (now (client .entry)) (now (challenge .entry)) (now (fresh .entry)) (now (redirect .entry)) (rec (now (ledger .entry)) k))))) ⌝ }
+{
+    let a = Ledger::HEAD + k * Ledger::RECORD;
+    let answer = enter(
+        &mut ledger[a..a + Ledger::RECORD],
+        scope,
+        number,
+        time + Reference::LIFETIME,
+        client,
+        challenge,
+        fresh,
+        redirect,
+    );
+    set_next(ledger, number + 1);
+    set_clock(ledger, time);
+    answer
 }
 
 pub fn push(
@@ -79,18 +112,15 @@ pub fn push(
     let Told::Passed = check::number(number) else {
         return Answer::refused(Refusal::NumbersSpent);
     };
-    let a = Ledger::HEAD + k * Ledger::RECORD;
-    let answer = enter(
-        &mut ledger[a..a + Ledger::RECORD],
+    enter_at(
+        ledger,
+        k,
+        time,
         bits,
         number,
-        time + Reference::LIFETIME,
         client,
         challenge,
         fresh,
         redirect,
-    );
-    set_next(ledger, number + 1);
-    set_clock(ledger, time);
-    answer
+    )
 }

@@ -1,6 +1,8 @@
 // Token: the program redeems its code, with the secret whose hash it left, for a token tied to its key.
 ghost use mathlib.Core.Path.{_≡_};
 ghost use Prim.Native.Nat.{_+_, _<_};
+ghost use Rattle.ledger.specs.Limits.{tokenLifetime, clockLimit};
+ghost use Rattle.ledger.specs.Fields.{rec, slots, withRecord, withClock};
 ghost use Rattle.ledger.specs.Write.{redeemed};
 ghost use Rattle.desk.specs.Answers.{answerOf};
 ghost use Rattle.desk.specs.Push.{left};
@@ -34,6 +36,22 @@ fn redeem(r: &mut [u8], expiry: u64, fresh: &[u8; 32], key: &[u8; 32]) -> Answer
 {
     ledger::write::redeemed(r, expiry, fresh, key);
     Answer::of(r)
+}
+
+// Lends record k to be written, then writes the clock.
+fn redeem_at(ledger: &mut [u8], k: usize, time: u64, fresh: &[u8; 32], key: &[u8; 32]) -> Answer
+    requires { ⌜ (k < slots (now ledger)) × (time < clockLimit) ⌝ }
+    ensures { λ a. ⌜ left a (now (ledger .exit)) ≡ left (answerOf (redeemed (time + tokenLifetime) (now (fresh .entry)) (now (key .entry)) (rec (now (ledger .entry)) k))) (withClock time (withRecord (now (ledger .entry)) k (redeemed (time + tokenLifetime) (now (fresh .entry)) (now (key .entry)) (rec (now (ledger .entry)) k)))) ⌝ }
+{
+    let a = Ledger::HEAD + k * Ledger::RECORD;
+    let answer = redeem(
+        &mut ledger[a..a + Ledger::RECORD],
+        time + Token::LIFETIME,
+        fresh,
+        key,
+    );
+    set_clock(ledger, time);
+    answer
 }
 
 pub fn token(
@@ -85,13 +103,5 @@ pub fn token(
     let Freshness::Fresh = ledger::fresh::check(ledger, fresh) else {
         return Answer::refused(Refusal::FreshTaken);
     };
-    let a = Ledger::HEAD + k * Ledger::RECORD;
-    let answer = redeem(
-        &mut ledger[a..a + Ledger::RECORD],
-        time + Token::LIFETIME,
-        fresh,
-        presented,
-    );
-    set_clock(ledger, time);
-    answer
+    redeem_at(ledger, k, time, fresh, presented)
 }

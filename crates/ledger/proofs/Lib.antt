@@ -5,10 +5,4 @@ pub mod ShortCuts
 pub mod Redirects
 pub mod Swept
 pub mod Told
-pub mod Puts
-pub mod Says
-pub mod Searches
-pub mod Heads
-pub mod Replaced
-pub mod Kept
-pub mod Ranges
+pub mod Profile

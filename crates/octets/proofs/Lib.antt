@@ -5,3 +5,4 @@ pub mod Numbers
 pub mod Parts
 pub mod Tabulate
 pub mod Bytes
+pub mod Mapped

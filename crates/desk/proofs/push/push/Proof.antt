@@ -4,7 +4,7 @@ use Rattle.clients.specs.Known.{isKnown, placeOf}
 use Rattle.clients.specs.Sound.{sound as tableSound}
 use Rattle.desk.proofs.Pushing.{push-1, push-2, push-3, push-4, push-5, push-6, push-7, push-8, push-9, push-done}
 use Rattle.desk.proofs.Told.{told, table-told, known-told, known-place, texts-told, scope-told, scope-bits}
-use Rattle.desk.proofs.Written.{found-inside, timely-lt, sound-short, push-written, refuses}
+use Rattle.desk.proofs.Written.{push-at, below-last, found-inside, timely-lt, sound-short, refuses}
 use Rattle.desk.proofs.push.push.Statement.{statement}
 use Rattle.desk.specs.Checks.{scopeFits}
 use Rattle.desk.specs.Push.{asker}
@@ -102,26 +102,11 @@ returns-8 c = refuses ((c .refused8) .ensures) (push-8 (l (c .before .before .be
 returns-9 : tie.Need-returns-9
 returns-9 c = refuses ((c .refused9) .ensures) (push-9 (l (c .before .before .before .before .before .before .before .before .before .before .before .before .before .before .before .before .before .before .before .before .before .before .before .before .before .before .before .before .before .before .before .before .before .before .before .before .before .before .before .before .before .before)) (c .before .before .before .before .before .before .before .before .before .before .before .before .before .before .before .before .before .before .before .before .before .before .before .before .before .before .before .before .before .before .before .before .before .before .before .before .before .before .before .before .before .before .args .time) ((c .before .before .before .before .before .before .before .before .before .before .before .before .before .before .before .before .before .before .before .before .before .before .before .before .before .before .before .before .before .before .before .before .before .before .before .before .before .before .before .before .before .before .args .table) .now) (request (c .before .before .before .before .before .before .before .before .before .before .before .before .before .before .before .before .before .before .before .before .before .before .before .before .before .before .before .before .before .before .before .before .before .before .before .before .before .before .before .before .before .before)) (sound-yes (c .before .before .before .before .before .before .before .before .before .before .before .before .before .before .before .before .before .before .before .before .before .before .before .before .before .before .before .before .before .before .before .before .before .before)) (timely-yes (c .before .before .before .before .before .before .before .before .before .before .before .before .before .before .before .before .before .before .before .before .before .before .before .before .before .before .before .before .before .before)) (table-yes (c .before .before .before .before .before .before .before .before .before .before .before .before .before .before .before .before .before .before .before .before .before .before .before .before .before .before .before)) (known-yes (c .before .before .before .before .before .before .before .before .before .before .before .before .before .before .before .before .before .before .before .before .before .before .before .before)) (texts-yes (c .before .before .before .before .before .before .before .before .before .before .before .before .before .before .before .before .before .before .before .before)) (scope-yes (c .before .before .before .before .before .before .before .before .before .before .before .before .before .before .before .before)) (fresh-yes (c .before .before .before .before .before .before .before .before .before .before .before)) (free-yes (c .before .before .before .before .before .before .before)) (told _ _ (ap (λ (n : ℕ). toldIf (eqb n lastNumber)) (sym ((c .before .before .before .before .next-number) .ensures)) ∙ sym ((c .before .before .before .number) .ensures) ∙ (c .before .enum-told15) .given .1)))
 
-mul-a : tie.Need-mul-a
-mul-a c = omega (arith, slot-within _ _ (inside (c .before .before .before .before .before .before)), sound-short _ (sound-yes (c .before .before .before .before .before .before .before .before .before .before .before .before .before .before .before .before .before .before .before .before .before .before .before .before .before .before .before .before .before .before .before .before .before)))
-
-add-a : tie.Need-add-a
-add-a c = omega (arith, slot-within _ _ (inside (c .before .before .before .before .before .before)), sound-short _ (sound-yes (c .before .before .before .before .before .before .before .before .before .before .before .before .before .before .before .before .before .before .before .before .before .before .before .before .before .before .before .before .before .before .before .before .before)))
-
-add-enter : tie.Need-add-enter
-add-enter c = omega (arith, slot-within _ _ (inside (c .before .before .before .before .before .before)), sound-short _ (sound-yes (c .before .before .before .before .before .before .before .before .before .before .before .before .before .before .before .before .before .before .before .before .before .before .before .before .before .before .before .before .before .before .before .before .before)))
-
-part-enter-end : tie.Need-part-enter-end
-part-enter-end c = omega (arith, slot-within _ _ (inside (c .before .before .before .before .before .before)))
-
-add-enter-2 : tie.Need-add-enter-2
-add-enter-2 c = omega (arith, timely-lt _ _ (timely-yes (c .before .before .before .before .before .before .before .before .before .before .before .before .before .before .before .before .before .before .before .before .before .before .before .before .before .before .before .before .before .before)))
-
-add-set-next : tie.Need-add-set-next
-add-set-next c = let ne : (c .before .before .before .before .before .before .before .before .next-number) .result ≡ lastNumber → ⊥ = λ e. eqb-false _ _ (number-yes (c .before .before .before .before .before)) (sym ((c .before .before .before .before .before .before .before .before .next-number) .ensures) ∙ e) in omega (arith, ne)
+enter-at-requires : tie.Need-enter-at-requires
+enter-at-requires c κs = ((inside (c .before .before .before .before .before .before .before)), timely-lt _ _ (timely-yes (c .before .before .before .before .before .before .before .before .before .before .before .before .before .before .before .before .before .before .before .before .before .before .before .before .before .before .before .before .before .before)), below-last _ _ (number-yes (c .before)) ((c .before .before .before .before .next-number) .ensures) (omega arith))
 
 returns-10 : tie.Need-returns-10
-returns-10 c = push-written (l (c .before .before .before .before .before .before .before .before .before .before .before .before .before .before .before .before .before .before .before .before .before .before .before .before .before .before .before .before .before .before .before .before .before .before .before .before .before .before .before .before .before .before .before .before .before .before .before .before .before .before .before .before .before)) (c .before .before .before .before .before .before .before .before .before .before .before .before .before .before .before .before .before .before .before .before .before .before .before .before .before .before .before .before .before .before .before .before .before .before .before .before .before .before .before .before .before .before .before .before .before .before .before .before .before .before .before .before .before .args .time) _ (inside (c .before .before .before .before .before .before .before .before .before .before .before .before .before .before .before .before .before .before)) ((c .before .before .before .before .before .before .before .before .before .before .before .before .before .before .before .before .before .before .before .before .before .before .before .before .before .before .before .before .before .before .before .before .before .before .before .before .before .before .before .before .before .before .before .before .before .before .before .before .before .before .before .before .before .args .table) .now) (request (c .before .before .before .before .before .before .before .before .before .before .before .before .before .before .before .before .before .before .before .before .before .before .before .before .before .before .before .before .before .before .before .before .before .before .before .before .before .before .before .before .before .before .before .before .before .before .before .before .before .before .before .before .before)) _ _ _ _ _ _ (free-at (c .before .before .before .before .before .before .before .before .before .before .before .before .before .before .before .before .before .before)) (bits-are (c .before .before .before .before .before .before .before .before .before .before .before .before .before .before .before .before .before .before .before .before .before .before .before .before .before .before .before)) ((c .before .before .before .before .before .before .before .before .before .before .before .before .before .before .before .next-number) .ensures) ((c .before .before .before .before .before .before .before .before .before .before .enter) .ensures .0) ((c .before .before .before .before .before .before .before .before .before .before .enter) .ensures .1) ((c .before .before .before .before .before .before .set-next) .ensures) ((c .before .before .set-clock) .ensures) ∙ sym (push-done (l (c .before .before .before .before .before .before .before .before .before .before .before .before .before .before .before .before .before .before .before .before .before .before .before .before .before .before .before .before .before .before .before .before .before .before .before .before .before .before .before .before .before .before .before .before .before .before .before .before .before .before .before .before .before)) (c .before .before .before .before .before .before .before .before .before .before .before .before .before .before .before .before .before .before .before .before .before .before .before .before .before .before .before .before .before .before .before .before .before .before .before .before .before .before .before .before .before .before .before .before .before .before .before .before .before .before .before .before .before .args .time) ((c .before .before .before .before .before .before .before .before .before .before .before .before .before .before .before .before .before .before .before .before .before .before .before .before .before .before .before .before .before .before .before .before .before .before .before .before .before .before .before .before .before .before .before .before .before .before .before .before .before .before .before .before .before .args .table) .now) (request (c .before .before .before .before .before .before .before .before .before .before .before .before .before .before .before .before .before .before .before .before .before .before .before .before .before .before .before .before .before .before .before .before .before .before .before .before .before .before .before .before .before .before .before .before .before .before .before .before .before .before .before .before .before)) (sound-yes (c .before .before .before .before .before .before .before .before .before .before .before .before .before .before .before .before .before .before .before .before .before .before .before .before .before .before .before .before .before .before .before .before .before .before .before .before .before .before .before .before .before .before .before .before .before)) (timely-yes (c .before .before .before .before .before .before .before .before .before .before .before .before .before .before .before .before .before .before .before .before .before .before .before .before .before .before .before .before .before .before .before .before .before .before .before .before .before .before .before .before .before)) (table-yes (c .before .before .before .before .before .before .before .before .before .before .before .before .before .before .before .before .before .before .before .before .before .before .before .before .before .before .before .before .before .before .before .before .before .before .before .before .before .before)) (known-yes (c .before .before .before .before .before .before .before .before .before .before .before .before .before .before .before .before .before .before .before .before .before .before .before .before .before .before .before .before .before .before .before .before .before .before .before)) (texts-yes (c .before .before .before .before .before .before .before .before .before .before .before .before .before .before .before .before .before .before .before .before .before .before .before .before .before .before .before .before .before .before .before)) (scope-yes (c .before .before .before .before .before .before .before .before .before .before .before .before .before .before .before .before .before .before .before .before .before .before .before .before .before .before .before)) (fresh-yes (c .before .before .before .before .before .before .before .before .before .before .before .before .before .before .before .before .before .before .before .before .before .before)) (free-yes (c .before .before .before .before .before .before .before .before .before .before .before .before .before .before .before .before .before .before)) (number-yes (c .before .before .before .before .before .before .before .before .before .before .before .before)))
+returns-10 c = ((c .before .before .enter-at) .ensures) ∙ push-at (l (c .before .before .before .before .before .before .before .before .before .before .before .before .before .before .before .before .before .before .before .before .before .before .before .before .before .before .before .before .before .before .before .before .before .before .before .before .before .before .before .before .before .before .before .before .before)) (c .before .before .before .before .before .before .before .before .before .before .before .before .before .before .before .before .before .before .before .before .before .before .before .before .before .before .before .before .before .before .before .before .before .before .before .before .before .before .before .before .before .before .before .before .before .args .time) ((c .before .before .before .before .before .before .before .before .before .before .before .before .before .before .before .before .before .before .before .before .before .before .before .before .before .before .before .before .before .before .before .before .before .before .before .before .before .before .before .before .before .before .before .before .before .args .table) .now) (request (c .before .before .before .before .before .before .before .before .before .before .before .before .before .before .before .before .before .before .before .before .before .before .before .before .before .before .before .before .before .before .before .before .before .before .before .before .before .before .before .before .before .before .before .before .before)) _ _ _ (free-at (c .before .before .before .before .before .before .before .before .before .before)) (bits-are (c .before .before .before .before .before .before .before .before .before .before .before .before .before .before .before .before .before .before .before)) ((c .before .before .before .before .before .before .before .next-number) .ensures) ∙ sym (push-done (l (c .before .before .before .before .before .before .before .before .before .before .before .before .before .before .before .before .before .before .before .before .before .before .before .before .before .before .before .before .before .before .before .before .before .before .before .before .before .before .before .before .before .before .before .before .before)) (c .before .before .before .before .before .before .before .before .before .before .before .before .before .before .before .before .before .before .before .before .before .before .before .before .before .before .before .before .before .before .before .before .before .before .before .before .before .before .before .before .before .before .before .before .before .args .time) ((c .before .before .before .before .before .before .before .before .before .before .before .before .before .before .before .before .before .before .before .before .before .before .before .before .before .before .before .before .before .before .before .before .before .before .before .before .before .before .before .before .before .before .before .before .before .args .table) .now) (request (c .before .before .before .before .before .before .before .before .before .before .before .before .before .before .before .before .before .before .before .before .before .before .before .before .before .before .before .before .before .before .before .before .before .before .before .before .before .before .before .before .before .before .before .before .before)) (sound-yes (c .before .before .before .before .before .before .before .before .before .before .before .before .before .before .before .before .before .before .before .before .before .before .before .before .before .before .before .before .before .before .before .before .before .before .before .before .before)) (timely-yes (c .before .before .before .before .before .before .before .before .before .before .before .before .before .before .before .before .before .before .before .before .before .before .before .before .before .before .before .before .before .before .before .before .before)) (table-yes (c .before .before .before .before .before .before .before .before .before .before .before .before .before .before .before .before .before .before .before .before .before .before .before .before .before .before .before .before .before .before)) (known-yes (c .before .before .before .before .before .before .before .before .before .before .before .before .before .before .before .before .before .before .before .before .before .before .before .before .before .before .before)) (texts-yes (c .before .before .before .before .before .before .before .before .before .before .before .before .before .before .before .before .before .before .before .before .before .before .before)) (scope-yes (c .before .before .before .before .before .before .before .before .before .before .before .before .before .before .before .before .before .before .before)) (fresh-yes (c .before .before .before .before .before .before .before .before .before .before .before .before .before .before)) (free-yes (c .before .before .before .before .before .before .before .before .before .before)) (number-yes (c .before .before .before .before)))
 
 pub push-spec : {M : Type 1} → statement M
 push-spec =
@@ -183,16 +168,6 @@ push-spec =
     (search needs)
     (search needs)
     returns-9
-    mul-a
-    add-a
-    add-enter
-    (search needs)
-    (search needs)
-    part-enter-end
-    add-enter-2
-    (search needs)
-    add-set-next
-    (search needs)
-    (search needs)
+    enter-at-requires
     (search needs)
     returns-10)

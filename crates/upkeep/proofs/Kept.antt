@@ -6,6 +6,7 @@ use mathlib.Core.Path.{_≡_, refl, sym, ap, _∙_}
 use mathlib.Core.Logic.{_≢_, _⊎_, inl, inr, ⊎-elim}
 use mathlib.Core.Bool.{Bool, true, false, _&&_, true≢false}
 use mathlib.Core.List.{List}
+use lib.Seq.{take-at, drop-at}
 use lib.ListN.{length}
 use Rattle.octets.specs.Parts.{part, blank, zeros}
 use Rattle.octets.specs.Numbers.{num}
@@ -13,20 +14,21 @@ use Rattle.octets.proofs.Parts.{zeros-blank, length-blank}
 use Rattle.octets.proofs.Bytes.{zeros-drop, zeros-part, num-zeros}
 use Rattle.forms.specs.Forms.{challengeFormed, redirectFormed}
 use Rattle.forms.proofs.Laws.{challenge-length, redirect-length}
-use Rattle.ledger.specs.Limits.{clockLimit, expiryLimit, lastNumber, headSize, recordSize}
+use Rattle.ledger.specs.Limits.{recordsLeast, recordsMost, clockLimit, expiryLimit, lastNumber, headSize, recordSize}
 use Rattle.ledger.specs.Fields.{withClock, nextNumber, withNext, rec, slots, withRecord, state, stateNumber, used}
 use Rattle.ledger.specs.Sound.{sized, sound}
 use Rattle.ledger.specs.Checks.{taken, expired}
 use Rattle.ledger.specs.Write.{pushed, consented, redeemed, free}
 use Rattle.ledger.specs.Sweep.{sweptRecord, sweptTo, swept}
 use Rattle.ledger.specs.declared.state.State.the-variants.{Free, Pushed, Consented}
 use Rattle.ledger.proofs.Records.{rec-length}
 use Rattle.ledger.proofs.Swept.{length-free, length-swept, slots-to, length-to, rec-swept}
-use Rattle.ledger.proofs.Puts.{AfterPush, pushed-fields, AfterConsent, consented-fields, AfterToken, redeemed-fields}
-use Rattle.ledger.proofs.Says.{SoundUsed, SoundRecords, free-is, of-sound, to-sound, sized-says}
-use Rattle.ledger.proofs.Searches.{fresh-in}
-use Rattle.ledger.proofs.Heads.{length-clock, slots-clock, rec-clock, next-clock, rest-clock, clock-is, length-next, slots-next, rec-next, clock-next, rest-next, next-is, head-with}
-use Rattle.ledger.proofs.Replaced.{free-state, free-sound, free-holds, free-own, records-as, Fits, sound-as, sound-replaced, sound-numbered, sound-fewer}
+use Rattle.upkeep.specs.View.{slotOf, pushedSlot, consentedSlot, redeemedSlot}
+use Rattle.upkeep.proofs.Written.{Wrote, wrote-redirect, wrote-behind, redirect-front, pushed-wrote, consented-wrote, redeemed-wrote}
+use Rattle.upkeep.proofs.Says.{SoundUsed, SoundRecords, free-is, of-sound, to-sound, sized-says}
+use Rattle.upkeep.proofs.Searches.{fresh-in}
+use Rattle.upkeep.proofs.Heads.{length-clock, slots-clock, rec-clock, next-clock, rest-clock, clock-is, length-next, slots-next, rec-next, clock-next, rest-next, next-is, head-with}
+use Rattle.upkeep.proofs.Replaced.{free-state, free-sound, free-holds, free-own, records-as, Fits, sound-as, sound-replaced, sound-numbered, sound-fewer}
 
 -- "the clock becomes now"
 pub sound-clock : (t : ℕ) (l : List ℕ) → sound l ≡ true → t < clockLimit → sound (withClock t l) ≡ true
@@ -68,13 +70,13 @@ swept-one t l k h = go (used (rec l k) && expired t (rec l k)) refl
     go true p = inr (rec-swept t l k h ∙ rw p)
     go false p = inl (rec-swept t l k h ∙ rw p)
 
-pub length-all : (t : ℕ) (l : List ℕ) → length (swept t l) ≡ length l
+pub length-sweep : (t : ℕ) (l : List ℕ) → length (swept t l) ≡ length l
 unfolding swept
-length-all t l = length-to t l (slots l) (le-refl _)
+length-sweep t l = length-to t l (slots l) (le-refl _)
 
 pub sound-swept : (t : ℕ) (l : List ℕ) → sound l ≡ true → sound (swept t l) ≡ true
 sound-swept t l e =
-    sound-fewer l (swept t l) e (length-all t l) (ap num (head-swept t l 0 8 (omega arith))) (ap num (head-swept t l 8 8 (omega arith)))
+    sound-fewer l (swept t l) e (length-sweep t l) (ap num (head-swept t l 0 8 (omega arith))) (ap num (head-swept t l 8 8 (omega arith)))
     (head-swept t l 16 16 (omega arith)) (swept-one t l)
 
 -- ---- start: "Writes zeros and next number 1."
@@ -114,7 +116,7 @@ sound-started l e =
     })
 
 -- in the number of records
-pub sound-start : (n : ℕ) → 1 ≤ n → n ≤ 200 → sound (withNext 1 (blank (headSize + n * recordSize))) ≡ true
+pub sound-start : (n : ℕ) → recordsLeast ≤ n → n ≤ recordsMost → sound (withNext 1 (blank (headSize + n * recordSize))) ≡ true
 unfolding slots
 sound-start n a b =
     let d = length-blank (32 + n * 256) in
@@ -144,16 +146,17 @@ module _
     abbrev the-pushed : List ℕ
     the-pushed = pushed bits (nextNumber l) until id text fresh target (rec l k)
 
-    push-facts : AfterPush bits (nextNumber l) until id text fresh target (rec l k) the-pushed
+    push-facts : Wrote (rec l k) the-pushed (pushedSlot bits (nextNumber l) until id text fresh target (slotOf (rec l k)))
     push-facts =
         let m = redirect-length target target-well in
-        pushed-fields bits (nextNumber l) until id text fresh target (rec l k) scope-fits (omega arith) (omega arith) id-long
+        pushed-wrote bits (nextNumber l) until id text fresh target (rec l k) scope-fits (omega arith) (omega arith) id-long
         (challenge-length text text-well) fresh-long (omega arith) (rec-length l k inside)
 
     push-blank : zeros (rec l k) ≡ true
     push-blank = of-sound l is-sound .within .each k inside .when-free vacant
 
     push-used : SoundUsed (nextNumber l + 1) the-pushed
+    unfolding slotOf
     push-used =
         let f = push-facts in
         let m = redirect-length target target-well in
@@ -182,11 +185,12 @@ module _
           challenge-well = rw (f .challenge-is) text-well;
           length-least = omega arith;
           length-most = omega arith;
-          redirect-well = rw (f .redirect-is) target-well;
-          behind-zero = rw (f .behind-is) (zeros-drop (length target) _ (zeros-part (rec l k) 192 64 blank));
+          redirect-well = rw (wrote-redirect _ _ _ f ∙ take-at target _ (length target) refl) target-well;
+          behind-zero = rw (wrote-behind _ _ _ f ∙ drop-at target _ (length target) refl) (zeros-drop (length target) _ (zeros-part (rec l k) 192 64 blank));
         }
 
     push-fits : Fits (nextNumber l + 1) l k the-pushed
+    unfolding slotOf
     push-fits =
         let f = push-facts in
         let v = fresh-in l fresh new in
@@ -206,7 +210,7 @@ module _
               (c .left);
         }
 
-    pub sound-pushed : sound (withNext (nextNumber l + 1) (withRecord l k the-pushed)) ≡ true
+    pub sound-pushed : sound (withNext (nextNumber l + 1) (withRecord l k (pushed bits (nextNumber l) until id text fresh target (rec l k)))) ≡ true
     sound-pushed = sound-numbered l k the-pushed (nextNumber l + 1) is-sound inside (omega arith) (omega arith) push-fits
 
 -- ---- decide, yes
@@ -227,13 +231,14 @@ module _
     abbrev the-consented : List ℕ
     the-consented = consented until who fresh (rec l k)
 
-    consent-facts : AfterConsent until who fresh (rec l k) the-consented
-    consent-facts = consented-fields until who fresh (rec l k) (omega arith) who-fits fresh-long (rec-length l k inside)
+    consent-facts : Wrote (rec l k) the-consented (consentedSlot until who fresh (slotOf (rec l k)))
+    consent-facts = consented-wrote until who fresh (rec l k) (omega arith) who-fits fresh-long (rec-length l k inside)
 
     consent-before : SoundUsed (nextNumber l) (rec l k)
     consent-before = of-sound l is-sound .within .each k inside .when-used (λ e. omega arith)
 
     consent-used : SoundUsed (nextNumber l) the-consented
+    unfolding slotOf
     consent-used =
         let f = consent-facts in
         let u = consent-before in
@@ -258,11 +263,12 @@ module _
           challenge-well = rw (f .challenge-is) (u .challenge-well);
           length-least = rw (f .length-is) (u .length-least);
           length-most = rw (f .length-is) (u .length-most);
-          redirect-well = rw (f .redirect-is) (u .redirect-well);
-          behind-zero = rw (f .behind-is) (u .behind-zero);
+          redirect-well = rw (wrote-redirect _ _ _ f ∙ sym (redirect-front (rec l k) (rec-length l k inside))) (u .redirect-well);
+          behind-zero = rw (wrote-behind _ _ _ f) (u .behind-zero);
         }
 
     consent-fits : Fits (nextNumber l) l k the-consented
+    unfolding slotOf
     consent-fits =
         let f = consent-facts in
         let w = of-sound l is-sound .within in
@@ -279,7 +285,7 @@ module _
               (c .left);
         }
 
-    pub sound-consented : sound (withRecord l k the-consented) ≡ true
+    pub sound-consented : sound (withRecord l k (consented until who fresh (rec l k))) ≡ true
     sound-consented = sound-replaced l k the-consented is-sound inside consent-fits
 
 -- ---- token
@@ -300,13 +306,14 @@ module _
     abbrev the-redeemed : List ℕ
     the-redeemed = redeemed until fresh key (rec l k)
 
-    token-facts : AfterToken until fresh key (rec l k) the-redeemed
-    token-facts = redeemed-fields until fresh key (rec l k) (omega arith) fresh-long key-long (rec-length l k inside)
+    token-facts : Wrote (rec l k) the-redeemed (redeemedSlot until fresh key (slotOf (rec l k)))
+    token-facts = redeemed-wrote until fresh key (rec l k) (omega arith) fresh-long key-long (rec-length l k inside)
 
     token-before : SoundUsed (nextNumber l) (rec l k)
     token-before = of-sound l is-sound .within .each k inside .when-used (λ e. omega arith)
 
     token-used : SoundUsed (nextNumber l) the-redeemed
+    unfolding slotOf
     token-used =
         let f = token-facts in
         let u = token-before in
@@ -331,11 +338,12 @@ module _
           challenge-well = rw (f .challenge-is) (u .challenge-well);
           length-least = rw (f .length-is) (u .length-least);
           length-most = rw (f .length-is) (u .length-most);
-          redirect-well = rw (f .redirect-is) (u .redirect-well);
-          behind-zero = rw (f .behind-is) (u .behind-zero);
+          redirect-well = rw (wrote-redirect _ _ _ f ∙ sym (redirect-front (rec l k) (rec-length l k inside))) (u .redirect-well);
+          behind-zero = rw (wrote-behind _ _ _ f) (u .behind-zero);
         }
 
     token-fits : Fits (nextNumber l) l k the-redeemed
+    unfolding slotOf
     token-fits =
         let f = token-facts in
         let w = of-sound l is-sound .within in
@@ -352,5 +360,5 @@ module _
               (c .left);
         }
 
-    pub sound-redeemed : sound (withRecord l k the-redeemed) ≡ true
+    pub sound-redeemed : sound (withRecord l k (redeemed until fresh key (rec l k))) ≡ true
     sound-redeemed = sound-replaced l k the-redeemed is-sound inside token-fits

@@ -11,10 +11,10 @@ use Rattle.octets.proofs.Parts.{length-put, put-same, part-before}
 use Rattle.octets.proofs.Numbers.{Octets, length-digits, num-digits, num-lt}
 use Rattle.octets.proofs.Bytes.{octets-drop}
 use Rattle.octets.proofs.Tabulate.{tabulate-same}
 use Rattle.ledger.specs.Limits.{lastNumber}
 use Rattle.ledger.specs.Fields.{clock, withClock, nextNumber, withNext, headRest, rec, slots, records, withRecord}
 use Rattle.ledger.proofs.Records.{slot-within}
-use Rattle.ledger.proofs.Puts.{drop-put, take-put}
+use Rattle.upkeep.proofs.Puts.{drop-put, take-put}
 
 -- ---- the clock written
 

@@ -11,14 +11,14 @@ use lib.ListN.{length}
 use Rattle.octets.specs.Parts.{zeros}
 use Rattle.octets.proofs.Parts.{zeros-blank}
 use Rattle.octets.proofs.Bytes.{zeros-part, zeros-at}
 use Rattle.ledger.specs.Limits.{clockLimit}
 use Rattle.ledger.specs.Fields.{clock, nextNumber, withNext, headRest, rec, slots, withRecord, state, stateNumber, grant, value, token}
 use Rattle.ledger.specs.Sound.{sound}
 use Rattle.ledger.specs.Write.{free}
 use Rattle.ledger.specs.declared.state.State.the-variants.{Free}
 use Rattle.ledger.proofs.Records.{length-with, slots-with, rec-same, rec-other}
-use Rattle.ledger.proofs.Says.{SoundUsed, SoundRecord, SoundRecords, SoundLedger, Common, common-sym, of-sound, to-sound}
-use Rattle.ledger.proofs.Heads.{length-next, slots-next, rec-next, clock-next, rest-next, next-is, clock-with, next-with, rest-with}
+use Rattle.upkeep.proofs.Says.{SoundUsed, SoundRecord, SoundRecords, SoundLedger, Common, common-sym, of-sound, to-sound}
+use Rattle.upkeep.proofs.Heads.{length-next, slots-next, rec-next, clock-next, rest-next, next-is, clock-with, next-with, rest-with}
 
 -- ---- a free record
 

@@ -3,24 +3,24 @@ use Prim.Native.Nat.{ℕ, zero, suc, _<_}
 use native.Mathlib.Omega.{arith}
 use native.Mathlib.Decide.{ℕ-discrete, decLt}
 use mathlib.Core.Path.{_≡_, refl, sym, _∙_}
-use mathlib.Core.Logic.{_≢_, inl, inr, ⊎-elim}
-use mathlib.Core.Bool.{Bool, true, false, _||_, true≢false}
+use mathlib.Core.Logic.{_≢_, _↔_, _⊎_, inl, inr, ⊎-elim}
+use mathlib.Core.Bool.{Bool, true, false, _||_, true≢false, or-true}
 use mathlib.Core.List.{List, [], _∷_}
 use lib.ListN.{length, getD}
-use borrow.Author.Tests.{eqb-true}
+use borrow.Author.Tests.{eqb-true, eq-eqb}
 use Rattle.octets.specs.Lists.{some, place}
 use Rattle.octets.specs.Parts.{zeros, same}
-use Rattle.octets.proofs.Tests.{both, false-of}
+use Rattle.octets.proofs.Tests.{both, both-true, false-of}
 use Rattle.octets.proofs.Lists.{place-lt, place-ok, place-first}
-use Rattle.octets.proofs.Parts.{same-eq}
+use Rattle.octets.proofs.Parts.{same-eq, same-refl}
 use Rattle.ledger.specs.Fields.{rec, slots, records, state, stateNumber, inState, client, value, token}
 use Rattle.ledger.specs.Sound.{holds, sound}
 use Rattle.ledger.specs.Checks.{taken, found, isFree, isWith, isReference, isCode, isToken}
 use Rattle.ledger.specs.Write.{free}
 use Rattle.ledger.specs.declared.state.State.the-variants.{Free, Pushed, Consented, Redeemed}
 use Rattle.ledger.specs.declared.find.Found.the-variants.{At, Nothing}
 use Rattle.ledger.proofs.Records.{length-records, records-at, rec-length}
-use Rattle.ledger.proofs.Says.{either, neither, SoundRecord, SoundRecords, Of, holds-says, free-is, of-sound}
+use Rattle.upkeep.proofs.Says.{either, neither, SoundRecord, SoundRecords, Of, holds-says, free-is, of-sound}
 
 -- record k is the first that passes
 pub record First (q : List ℕ → Bool) (l : List ℕ) (k : ℕ) : Type 0 where
@@ -88,6 +88,54 @@ module _ (q : List ℕ → Bool) (l : List ℕ) where
       go true s = let n : At (place q (records l)) ≡ Nothing = rw s at e in let z : _≡_ {A = ℕ} 0 1 = cc in absurd (omega arith)
       go false s = none-in s k h
 
+-- ---- what is asked of a record
+
+pub free-says : (r : List ℕ) → (isFree r ≡ true) ↔ (state r ≡ stateNumber Free)
+unfolding isFree
+free-says r = (eqb-true (state r) 0, eq-eqb (state r) 0)
+
+with-says : (v c r : List ℕ) → (isWith v c r ≡ true) ↔ ((value r ≡ v) × (client r ≡ c))
+unfolding isWith
+with-says v c r = (
+  λ e.
+      let (a, b) = both (same (value r) v) (same (client r) c) e in
+      (same-eq (value r) v a, same-eq (client r) c b),
+  λ f. rw (f .0, f .1, same-refl v) (same-refl c),
+)
+
+pub reference-says : (v c r : List ℕ) → (isReference v c r ≡ true) ↔ ((state r ≡ stateNumber Pushed) × ((value r ≡ v) × (client r ≡ c)))
+unfolding isReference
+reference-says v c r = (
+  λ e.
+      let (a, b) = both (inState Pushed r) (isWith v c r) e in
+      (eqb-true (state r) 1 a, with-says v c r .0 b),
+  λ f. rw (eq-eqb (state r) 1 (f .0)) (with-says v c r .1 (f .1)),
+)
+
+pub code-says : (v c r : List ℕ)
+    → (isCode v c r ≡ true)
+    ↔ (((state r ≡ stateNumber Consented) ⊎ (state r ≡ stateNumber Redeemed)) × ((value r ≡ v) × (client r ≡ c)))
+unfolding isCode
+code-says v c r = (
+  λ e.
+      let (a, b) = both (inState Consented r || inState Redeemed r) (isWith v c r) e in (
+        ⊎-elim {C = (state r ≡ 2) ⊎ (state r ≡ 3)} (λ p. inl (eqb-true (state r) 2 p)) (λ p. inr (eqb-true (state r) 3 p)) (either (inState Consented r) (inState Redeemed r) a),
+        with-says v c r .0 b,
+      ),
+  λ f.
+      both-true (inState Consented r || inState Redeemed r) (isWith v c r)
+      (⊎-elim (λ p. rw (eq-eqb (state r) 2 p)) (λ p. rw (eq-eqb (state r) 3 p) (or-true (inState Consented r))) (f .0)) (with-says v c r .1 (f .1)),
+)
+
+pub token-says : (v r : List ℕ) → (isToken v r ≡ true) ↔ ((state r ≡ stateNumber Redeemed) × (token r ≡ v))
+unfolding isToken
+token-says v r = (
+  λ e.
+      let (a, b) = both (inState Redeemed r) (same (token r) v) e in
+      (eqb-true (state r) 3 a, same-eq (token r) v b),
+  λ f. rw (eq-eqb (state r) 3 (f .0), f .1) (same-refl v),
+)
+
 -- ---- a fresh value
 
 pub record FreshIn (l v : List ℕ) : Type 0 where
@@ -125,34 +173,23 @@ alone next l s v i j h m a b = go (ℕ-discrete i j)
 
 -- what is asked for by its reference, code or token holds it
 module _ (next : ℕ) (r : List ℕ) (s : SoundRecord next r) where
-  by-value : (v c : List ℕ) → state r ≢ stateNumber Free → isWith v c r ≡ true → holds v r ≡ true
-  unfolding isWith
-  by-value v c u e =
-      let p : value r ≡ v = same-eq (value r) v (both (same (value r) v) (same (client r) c) e .0) in
-      holds-says v r .1 (rw (← p) (s .when-used u .value-set), inl (sym p))
+  by-value : (v : List ℕ) → state r ≢ stateNumber Free → value r ≡ v → holds v r ≡ true
+  by-value v u e = holds-says v r .1 (rw (← e) (s .when-used u .value-set), inl (sym e))
 
   pub reference-holds : (v c : List ℕ) → isReference v c r ≡ true → holds v r ≡ true
-  unfolding isReference
   reference-holds v c e =
-      let (a, b) = both (inState Pushed r) (isWith v c r) e in
-      let p = eqb-true (state r) 1 a in
-      by-value v c (λ z. absurd (omega arith)) b
+      let f = reference-says v c r .0 e in
+      let p = f .0 in
+      by-value v (λ z. absurd (omega arith)) (f .1 .0)
 
   pub code-holds : (v c : List ℕ) → isCode v c r ≡ true → holds v r ≡ true
-  unfolding isCode
   code-holds v c e =
-      let (a, b) = both (inState Consented r || inState Redeemed r) (isWith v c r) e in
-      ⊎-elim
-      (λ x. let p = eqb-true (state r) 2 x in by-value v c (λ z. absurd (omega arith)) b)
-      (λ x. let p = eqb-true (state r) 3 x in by-value v c (λ z. absurd (omega arith)) b)
-      (either (inState Consented r) (inState Redeemed r) a)
+      let f = code-says v c r .0 e in
+      ⊎-elim (λ p. by-value v (λ z. absurd (omega arith)) (f .1 .0)) (λ p. by-value v (λ z. absurd (omega arith)) (f .1 .0)) (f .0)
 
   pub token-holds : (v : List ℕ) → isToken v r ≡ true → holds v r ≡ true
-  unfolding isToken
   token-holds v e =
-      let (a, b) = both (inState Redeemed r) (same (token r) v) e in
-      let p = eqb-true (state r) 3 a in
-      let q : token r ≡ v = same-eq (token r) v b in
+      let (p, q) = token-says v r .0 e in
       let u = s .when-used (λ z. absurd (omega arith)) in
       holds-says v r .1 (rw (← q) (u .token-set p), inr (sym q))
 

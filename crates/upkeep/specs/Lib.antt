@@ -1,0 +1,2 @@
+-- A view of the ledger by named fields.
+pub mod View
