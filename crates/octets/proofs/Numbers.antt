@@ -6,6 +6,7 @@ use native.Mathlib.Numerals.{add-one}
 use native.Mathlib.Omega.{arith}
 use lib.ListN.{length, getD, take, drop, drop-of-length-le, length-append, length-take, List·getD-append}
 use lib.Dec.{lit<}
+use lib.Pow.{field, mod-mod-pow}
 use lib.Seq.{drop-cons, take-suc, take-add, take-all}
 use native.Mathlib.Nat.{add-mul, mul-assoc}
 use Rattle.octets.specs.Parts.{part}
@@ -63,6 +64,14 @@ octets-digits (suc n) v i = last (digits n (v / 256)) (v % 256) (octets-digits n
     last [] y o h (suc i) = omega arith
     last (x ∷ xs) y o h zero = o 0
     last (x ∷ xs) y o h (suc i) = last xs y (λ j. o (suc j)) h i
+
+-- n digits see no more than the lowest n bytes
+pub digits-low : (n v : ℕ) → digits n (v % 2 ^ (8 * n)) ≡ digits n v
+unfolding digits
+digits-low zero v = refl
+digits-low (suc n) v =
+    let e : 8 * suc n ≡ 8 * n + 8 = omega arith in
+    rw (e, field v (8 * n) 8, mod-mod-pow v (8 * n) 8, digits-low n (v / 256))
 
 -- what is written is read back, where it fits
 pub num-digits : (n v : ℕ) → v < 256 ^ n → num (digits n v) ≡ v

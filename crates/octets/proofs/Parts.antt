@@ -8,8 +8,8 @@ use native.Mathlib.Nat.{min-eq-left, min-eq-right}
 use native.Mathlib.Numerals.{add-one}
 use native.Mathlib.Omega.{arith}
 use lib.Dec.{eqb, leb}
-use lib.ListN.{length, getD, take, drop, set, replicate, drop-of-length-le, length-append, length-take, length-drop, length-replicate, take-append-drop}
-use lib.Seq.{drop-cons, take-all, take-at, drop-at, drop-append-le, take-append-le, drop-append-add, drop-drop, take-suc, take-suc-set, drop-nil, take-nil, drop-set-lt}
+use lib.ListN.{length, getD, take, drop, set, replicate, drop-of-length-le, length-append, length-take, length-drop, length-replicate, take-append-drop, List·getD-append}
+use lib.Seq.{drop-cons, take-all, take-at, drop-at, drop-append-le, take-append-le, drop-append-add, drop-drop, take-suc, take-suc-set, drop-nil, take-nil, drop-set-lt, getD-take, getD-drop, getD-append-add}
 use borrow.Author.Tests.{eq-eqb, ne-eqb, eqb-true, leb-true, leb-false, not-true}
 use Rattle.octets.proofs.Tests.{both, false-of}
 use Rattle.octets.specs.Parts.{part, splice, laid, put, blank, zeros, same}
@@ -264,6 +264,49 @@ module _ (l : List ℕ) (a n : ℕ) (xs : List ℕ) (sized : length xs ≡ n) (w
 
   pub put-behind : (b m : ℕ) → a + n ≤ b → part (put l a xs) b m ≡ part l b m
   put-behind b m h = rw is-splice (part-behind l a n xs sized within b m h)
+
+-- ---- what is laid and put, byte by byte
+
+pub laid-in : (xs s : List ℕ) (i : ℕ) → i < length xs → i < length s → getD (laid xs s) i 0 ≡ getD xs i 0
+unfolding laid
+laid-in xs s i h k =
+    let m : i < length (take (length s) xs) = simp length-take (omega arith) in
+    List·getD-append (take (length s) xs) (drop (length xs) s) 0 i m ∙ getD-take (length s) xs i 0 k
+
+pub laid-past : (xs s : List ℕ) (i : ℕ) → length xs ≤ i → i < length s → getD (laid xs s) i 0 ≡ getD s i 0
+unfolding laid
+laid-past xs s i h k =
+    let m : length xs ≤ length s = omega arith in
+    let e : length xs + (i - length xs) ≡ i = omega arith in
+    rw (take-all (length s) xs m)
+    (ap (λ (j : ℕ). getD (xs ++ drop (length xs) s) j 0) (sym e)
+    ∙ getD-append-add xs (drop (length xs) s) (i - length xs) 0 ∙ getD-drop (length xs) s (i - length xs) 0
+    ∙ ap (λ (j : ℕ). getD s j 0) e)
+
+module _ (l : List ℕ) (a : ℕ) (xs : List ℕ) (i : ℕ) (inside : i < length l) where
+  put-from : a ≤ i → getD (put l a xs) i 0 ≡ getD (laid xs (drop a l)) (i - a) 0
+  unfolding put
+  put-from h =
+      let n : length (take a l) ≡ a = simp length-take (omega arith) in
+      let e : length (take a l) + (i - a) ≡ i = omega arith in
+      ap (λ (j : ℕ). getD (take a l ++ laid xs (drop a l)) j 0) (sym e) ∙ getD-append-add (take a l) (laid xs (drop a l)) (i - a) 0
+
+  pub put-in : a ≤ i → i < a + length xs → getD (put l a xs) i 0 ≡ getD xs (i - a) 0
+  put-in h k =
+      let m : i - a < length (drop a l) = simp length-drop (omega arith) in
+      put-from h ∙ laid-in xs (drop a l) (i - a) (omega arith) m
+
+  pub put-ahead : i < a → getD (put l a xs) i 0 ≡ getD l i 0
+  unfolding put
+  put-ahead h =
+      let m : i < length (take a l) = simp length-take (omega arith) in
+      List·getD-append (take a l) (laid xs (drop a l)) 0 i m ∙ getD-take a l i 0 h
+
+  pub put-past : a + length xs ≤ i → getD (put l a xs) i 0 ≡ getD l i 0
+  put-past h =
+      let m : i - a < length (drop a l) = simp length-drop (omega arith) in
+      let e : a + (i - a) ≡ i = omega arith in
+      put-from (omega arith) ∙ laid-past xs (drop a l) (i - a) (omega arith) m ∙ getD-drop a l (i - a) 0 ∙ ap (λ (j : ℕ). getD l j 0) e
 
 -- ---- the parts that `from`, `cut` and `put` lend
 

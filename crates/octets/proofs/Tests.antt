@@ -1,7 +1,9 @@
--- Laws of Bool tests. Assumes nothing.
-use Prim.Native.Nat.{ℕ, _≤_}
+-- Laws of Bool tests, and of two numbers. Assumes nothing.
+use Prim.Native.Nat.{ℕ, _≤_, _<_}
+use native.Mathlib.Decide.{decLt}
 use native.Mathlib.Omega.{arith}
 use mathlib.Core.Path.{_≡_, refl, sym}
+use mathlib.Core.Logic.{_⊎_, inl, inr}
 use mathlib.Core.Bool.{Bool, true, false, not, _&&_, _||_, false≢true}
 use Rattle.octets.specs.Lists.{bit}
 
@@ -41,3 +43,11 @@ pub bit-and : (a b : Bool) → bit (a && b) ≤ bit a
 bit-and true true = omega arith
 bit-and true false = omega arith
 bit-and false b = omega arith
+
+-- below, or not
+pub lt-or-le : (i n : ℕ) → (i < n) ⊎ (n ≤ i)
+lt-or-le i n = go (decLt i n)
+  where
+    go : Dec (i < n) → (i < n) ⊎ (n ≤ i)
+    go (yes h) = inl h
+    go (no h) = inr (omega arith)

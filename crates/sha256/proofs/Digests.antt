@@ -2,8 +2,7 @@
 use Prim.Native.Nat.{ℕ, zero, suc, _+_, _-_, _*_, _/_, _%_, _^_, _≤_, _<_}
 use mathlib.Core.Path.{_≡_, refl, ap, sym, _∙_}
 use mathlib.Core.List.{List, [], _∷_, _++_}
-use mathlib.Core.Logic.{_⊎_, inl, inr, ⊎-elim}
-use native.Mathlib.Decide.{decLt}
+use mathlib.Core.Logic.{⊎-elim}
 use native.Mathlib.Numerals.{add-one}
 use native.Mathlib.Omega.{arith}
 use lib.Dec.{lit<}
@@ -13,16 +12,10 @@ use Rattle.octets.specs.Lists.{tabulate}
 use Rattle.octets.specs.Numbers.{digits}
 use Rattle.octets.proofs.Numbers.{length-digits}
 use Rattle.octets.proofs.Tabulate.{length-tabulate, getD-tabulate}
+use Rattle.octets.proofs.Tests.{lt-or-le}
 use Rattle.sha256.specs.Pad.{pad, blocks, block}
 use Rattle.sha256.specs.Hash.{added, compress, hashValue, joined, sha256}
 use Rattle.sha256.proofs.Digits.{getD-digits}
-
-below : (i n : ℕ) → (i < n) ⊎ (n ≤ i)
-below i n = go (decLt i n)
-  where
-    go : Dec (i < n) → (i < n) ⊎ (n ≤ i)
-    go (yes h) = inl h
-    go (no h) = inr (omega arith)
 
 -- ---- words one after the other
 
@@ -50,7 +43,7 @@ getD-joined (w ∷ ws) i h =
     let s : length (digits 4 w) + (i - 4) ≡ i = omega (arith, length-digits 4 w) in
     ap (λ j. getD (digits 4 w ++ joined ws) j 0) (sym s)
     ∙ getD-append-add (digits 4 w) (joined ws) (i - 4) 0 ∙ getD-joined ws (i - 4) (omega arith) ∙ rw (q, r))
-    (below i 4)
+    (lt-or-le i 4)
 
 pub joined-table : (ws : List ℕ) (n : ℕ) → n ≡ 4 * length ws → tabulate (byteOf ws) n ≡ joined ws
 joined-table ws n e =
@@ -82,7 +75,7 @@ bytes-joined : (ws : List ℕ) (i : ℕ) → getD (joined ws) i 0 < 256
 bytes-joined ws i =
     ⊎-elim (λ k. rw (getD-joined ws i k) (omega arith))
     (λ k. rw (List·getD-eq-default (joined ws) 0 (past k)) (lit< tt))
-    (below i (4 * length ws))
+    (lt-or-le i (4 * length ws))
   where
     past : 4 * length ws ≤ i → length (joined ws) ≤ i
     past k = omega (arith, length-joined ws)

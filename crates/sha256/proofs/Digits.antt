@@ -4,7 +4,7 @@ use mathlib.Core.Path.{_≡_, refl, ap, sym, _∙_}
 use mathlib.Core.List.{List, [], _∷_, _++_}
 use native.Mathlib.Omega.{arith}
 use lib.ListN.{getD}
-use lib.Pow.{shr-shr, field, mod-mod-pow}
+use lib.Pow.{shr-shr}
 use Rattle.octets.specs.Lists.{tabulate}
 use Rattle.octets.specs.Numbers.{digits}
 use Rattle.octets.proofs.Tabulate.{getD-tabulate, tabulate-same}
@@ -32,7 +32,3 @@ digits-table (suc n) v =
 
 pub getD-digits : (n v i : ℕ) → i < n → getD (digits n v) i 0 ≡ digit n v i
 getD-digits n v i h = rw (digits-table n v) (getD-tabulate (digit n v) 0 n i h)
-
--- a byte does not see what a remainder by a higher power drops
-pub digit-low : (v j k : ℕ) → v % 2 ^ ((j + 8) + k) / 2 ^ k % 2 ^ 8 ≡ v / 2 ^ k % 2 ^ 8
-digit-low v j k = ap (λ x. x % 2 ^ 8) (field v (j + 8) k) ∙ mod-mod-pow (v / 2 ^ k) j 8
