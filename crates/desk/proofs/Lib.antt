@@ -6,3 +6,6 @@ pub mod Deciding
 pub mod Redeeming
 pub mod Looking
 pub mod Ends
+pub mod Turns
+pub mod Rows
+pub mod Facts
