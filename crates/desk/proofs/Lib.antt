@@ -9,3 +9,4 @@ pub mod Ends
 pub mod Turns
 pub mod Rows
 pub mod Facts
+pub mod Alone
