@@ -10,3 +10,4 @@ pub mod Turns
 pub mod Rows
 pub mod Facts
 pub mod Alone
+pub mod Keeping
