@@ -11,3 +11,4 @@ pub mod Rows
 pub mod Facts
 pub mod Alone
 pub mod Keeping
+pub mod Accepting
