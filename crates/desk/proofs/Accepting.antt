@@ -1,29 +1,28 @@
 -- Each call answers 0 exactly when the conditions of specs/Accepted hold. Assumes nothing.
-use Prim.Native.Nat.{ℕ, _+_, _*_, _≤_, _<_}
+use Prim.Native.Nat.{ℕ, _<_}
 use native.Mathlib.Omega.{arith}
 use mathlib.Core.Path.{_≡_, refl, sym, ap, _∙_}
-use mathlib.Core.Logic.{_≢_, _⊎_, inl, inr, ⊎-elim, _↔_}
+use mathlib.Core.Logic.{inl, inr, ⊎-elim, _↔_}
 use mathlib.Core.Bool.{Bool, true, false, not, _&&_, _||_, true≢false}
 use mathlib.Core.List.{List}
 use lib.Bits.{bitAnd}
 use lib.Dec.{eqb, ltb, leb}
 use lib.ListN.{length, getD, take}
 use borrow.Author.Tests.{ltb-false, le-ltb, leb-true, leb-false, le-leb, lt-leb, eqb-true, eqb-false, eq-eqb, ne-eqb, not-true}
-use Rattle.octets.specs.Lists.{every, some, place}
-use Rattle.octets.specs.Parts.{zeros, same}
+use Rattle.octets.specs.Lists.{every, place}
+use Rattle.octets.specs.Parts.{same}
 use Rattle.octets.proofs.Tests.{both, both-true}
 use Rattle.octets.proofs.Lists.{every-at, every-of}
 use Rattle.octets.proofs.Parts.{same-eq, same-of}
 use Rattle.forms.specs.Limits.{redirectLeast, redirectMost, redirectPrefix, challengeLength, verifierLeast, verifierMost}
 use Rattle.forms.specs.Forms.{between, begins, visible, urlSafe, unreserved, redirectFormed, challengeFormed, verifierFormed}
 use Rattle.s256.specs.Rule.{matches}
-use Rattle.ledger.specs.Limits.{clockLimit, lastNumber, headSize, recordSize}
+use Rattle.ledger.specs.Limits.{clockLimit, lastNumber}
 use Rattle.ledger.specs.Fields.{clock, nextNumber, rec, slots, records, state, stateNumber, inState, scope, expiry, holder, client, challenge, value, token, boundKey}
-use Rattle.ledger.specs.Sound.{sized, sound}
 use Rattle.ledger.specs.Checks.{untimely, isFree, isWith, isReference, isCode, isToken, expired, taken}
 use Rattle.ledger.specs.declared.state.State.the-variants.{Free, Pushed, Consented, Redeemed}
 use Rattle.ledger.proofs.Says.{either, neither, sized-says}
-use Rattle.ledger.proofs.Searches.{First, some-in, first-in, first-place, FreshIn, fresh-in, fresh-taken, reference-first, code-first, token-first}
+use Rattle.ledger.proofs.Searches.{First, some-in, first-in, first-place, fresh-in, fresh-taken, reference-first, code-first, token-first}
 use Rattle.clients.specs.Fields.{permitted, client as entry}
 use Rattle.clients.specs.Known.{isKnown, placeOf, known}
 use Rattle.clients.specs.Sound.{sound as tableSound}
@@ -33,16 +32,16 @@ use Rattle.desk.specs.Limits.{outputLeast}
 use Rattle.desk.specs.Answers.{done}
 use Rattle.desk.specs.Checks.{scopeFits, within}
 use Rattle.desk.specs.Requests.{PushRequest, DecideRequest, TokenRequest, ResourceRequest}
-use Rattle.desk.specs.Push.{Outcome, push}
-use Rattle.desk.specs.Decide.{Decision, referenceAt, decide}
+use Rattle.desk.specs.Push.{push}
+use Rattle.desk.specs.Decide.{referenceAt, decide}
 use Rattle.desk.specs.Token.{codeAt, token as redeem}
 use Rattle.desk.specs.Resource.{tokenPlace, resource}
-use Rattle.desk.specs.Sweep.{Sweeping, sweep}
-use Rattle.desk.specs.Start.{Started, start}
+use Rattle.desk.specs.Sweep.{sweep}
+use Rattle.desk.specs.Start.{start}
 use Rattle.desk.specs.Accepted.{InTime, KnownAt, RedirectWell, ChallengeWell, VerifierWell, ScopeWithin, FreshValue, StartAccepted, PushAccepted, DecideAccepted, TokenAccepted, ResourceAccepted, SweepAccepted}
 use Rattle.desk.proofs.Told.{known-told, known-place}
 use Rattle.desk.proofs.Rows.{push-passed, decide-passed, token-passed, resource-passed, sweep-passed, start-passed}
-use Rattle.desk.proofs.Facts.{PushFacts, push-facts, facts-push, DecideFacts, decide-facts, facts-decide, TokenFacts, token-facts, facts-token, ResourceFacts, resource-facts, facts-resource, SweepFacts, sweep-facts, facts-sweep}
+use Rattle.desk.proofs.Facts.{PushFacts, push-facts, facts-push, DecideFacts, decide-facts, facts-decide, TokenFacts, token-facts, facts-token, ResourceFacts, resource-facts, facts-resource, sweep-facts, facts-sweep}
 
 -- ---- what several calls ask
 

@@ -1,45 +1,43 @@
--- What an accepted call leaves alone, and that the clock becomes now. Assumes nothing.
-use Prim.Native.Nat.{ℕ, _+_, _*_, _≤_, _<_, _^_}
+-- What a refusal and what an accepted call leave alone, and that the clock becomes now. Assumes nothing.
+use Prim.Native.Nat.{ℕ, _+_, _≤_, _<_, _^_}
 use native.Mathlib.Omega.{arith}
 use native.Mathlib.Nat.{le-refl}
 use native.Mathlib.Decide.{decLt}
-use mathlib.Core.Path.{_≡_, refl, sym, ap, _∙_}
+use mathlib.Core.Path.{_≡_, refl, ap, _∙_}
 use mathlib.Core.Logic.{_≢_}
 use mathlib.Core.Bool.{Bool, true, false, _&&_, cond}
 use mathlib.Core.List.{List}
-use lib.Dec.{ltb}
-use lib.ListN.{length, drop, take}
+use lib.ListN.{length, drop}
 use borrow.Author.Tests.{ltb-false, eqb-false}
-use Rattle.octets.specs.Lists.{some, place}
+use Rattle.octets.specs.Lists.{place}
 use Rattle.octets.specs.Numbers.{num}
 use Rattle.octets.specs.Parts.{part}
 use Rattle.octets.proofs.Numbers.{Octets}
 use Rattle.octets.proofs.Parts.{length-put, put-same, part-length}
 use Rattle.ledger.specs.Limits.{lastNumber}
 use Rattle.ledger.specs.Fields.{clock, nextNumber, headRest, rec, slots, records, used, redirectField, withRecord, withNext, withClock}
-use Rattle.ledger.specs.Sound.{sound}
-use Rattle.ledger.specs.Checks.{untimely, isFree, isReference, isCode, isToken, expired}
+use Rattle.ledger.specs.Checks.{isFree, isReference, isCode, expired}
 use Rattle.ledger.specs.Write.{pushed, consented, redeemed, free}
-use Rattle.ledger.specs.Sweep.{sweptRecord, sweptTo, swept}
+use Rattle.ledger.specs.Sweep.{sweptRecord, swept}
 use Rattle.ledger.proofs.Records.{slot-within, rec-length, length-with, rec-other}
 use Rattle.ledger.proofs.Heads.{length-clock, rec-clock, next-clock, rest-clock, clock-is, length-next, rec-next, rest-next, next-is, next-with, rest-with, next-left}
 use Rattle.ledger.proofs.Puts.{drop-put}
-use Rattle.ledger.proofs.Swept.{length-free, rec-ahead, rec-swept}
-use Rattle.ledger.proofs.Kept.{head-swept, length-all}
+use Rattle.ledger.proofs.Swept.{length-free, length-to, rec-ahead, rec-swept}
+use Rattle.ledger.proofs.Kept.{head-swept}
 use Rattle.ledger.proofs.Says.{of-sound}
 use Rattle.ledger.proofs.Searches.{first-in}
 use Rattle.desk.specs.Limits.{outputLeast}
 use Rattle.desk.specs.Answers.{done}
 use Rattle.desk.specs.Requests.{PushRequest, DecideRequest, TokenRequest, ResourceRequest}
-use Rattle.desk.specs.Push.{Outcome, pushChecks, pushRecord, pushAt, push}
-use Rattle.desk.specs.Decide.{Decision, referenceAt, decideChecks, handedOut, consentRecord, consentAt, declineAt, decideAt, decide}
-use Rattle.desk.specs.Token.{codeAt, tokenChecks, tokenRecord, tokenAt, token}
-use Rattle.desk.specs.Resource.{tokenPlace, resourceChecks, resource}
-use Rattle.desk.specs.Sweep.{Sweeping, sweepChecks, sweep}
+use Rattle.desk.specs.Push.{Outcome, pushRecord, pushAt, push}
+use Rattle.desk.specs.Decide.{Decision, referenceAt, handedOut, consentRecord, consentAt, declineAt, decideAt, decide}
+use Rattle.desk.specs.Token.{codeAt, tokenRecord, tokenAt, token}
+use Rattle.desk.specs.Resource.{resource}
+use Rattle.desk.specs.Sweep.{Sweeping, sweep}
 use Rattle.desk.proofs.Written.{timely-lt}
-use Rattle.desk.proofs.Turns.{Passed, number-refused}
+use Rattle.desk.proofs.Turns.{number-refused}
 use Rattle.desk.proofs.Rows.{push-cases, decide-cases, token-cases, resource-cases, sweep-cases}
-use Rattle.desk.proofs.Facts.{PushFacts, push-facts, DecideFacts, decide-facts, TokenFacts, token-facts, ResourceFacts, resource-facts, SweepFacts, sweep-facts}
+use Rattle.desk.proofs.Facts.{PushFacts, push-facts, DecideFacts, decide-facts, TokenFacts, token-facts, resource-facts, sweep-facts}
 
 -- ---- one record rewritten, and the clock
 
@@ -276,6 +274,10 @@ free-where : (t : ℕ) (r : List ℕ) → (used r && expired t r) ≡ true → s
 unfolding sweptRecord
 free-where t r e = rw e
 
+swept-long : (t : ℕ) (l : List ℕ) → length (swept t l) ≡ length l
+unfolding swept
+swept-long t l = length-to t l (slots l) (le-refl _)
+
 swept-beyond : (t : ℕ) (l : List ℕ) (j : ℕ) → slots l ≤ j → rec (swept t l) j ≡ rec l j
 unfolding swept
 swept-beyond t l j h = rec-ahead t l (slots l) j (le-refl _) h
@@ -292,7 +294,7 @@ module _ (l : List ℕ) (t : ℕ) where
       let f = sweep-facts l t ok in
       let least = of-sound l (f .ledger-sound) .least in
       let h = timely-lt l t (f .in-time) in
-      let n = length-all t l in
+      let n = swept-long t l in
       record {
         others = λ j x. rec-clock t (swept t l) j ∙ swept-others j x (decLt j (slots l));
         freed = λ j i x. rec-clock t (swept t l) j ∙ rec-swept t l j i ∙ free-where t (rec l j) x;
@@ -301,3 +303,31 @@ module _ (l : List ℕ) (t : ℕ) where
         time = clock-is t (swept t l) (omega arith) (omega arith);
         long = length-clock t (swept t l) ∙ n;
       })
+
+-- ---- "A refusal .. changes no lent byte, clock included."
+
+pub push-unchanged : (l : List ℕ) (t : ℕ) (table : List ℕ) (p : PushRequest) → (push l t table p) .answer .number ≢ done → (push l t table p) .ledger ≡ l
+unfolding pushAt
+push-unchanged l t table p =
+    push-cases l t table p (λ (o : Outcome). o .answer .number ≢ done → o .ledger ≡ l) (λ why u n. refl) (λ ok n. absurd (n refl))
+
+pub decide-unchanged : (l : List ℕ) (t : ℕ) (d : DecideRequest) (out : List ℕ) → (decide l t d out) .answer .answer .number ≢ done
+    → ((decide l t d out) .ledger ≡ l) × ((decide l t d out) .output ≡ out)
+unfolding consentAt declineAt
+decide-unchanged l t d out =
+    decide-cases l t d out (λ (o : Decision). o .answer .answer .number ≢ done → (o .ledger ≡ l) × (o .output ≡ out)) (λ why u n. (refl, refl))
+    (λ ok.
+    either-way l t d out (λ (o : Decision). o .answer .answer .number ≢ done → (o .ledger ≡ l) × (o .output ≡ out)) (λ n. absurd (n refl)) (λ n. absurd (n refl)))
+
+pub token-unchanged : (l : List ℕ) (t : ℕ) (table : List ℕ) (q : TokenRequest) → (token l t table q) .answer .number ≢ done → (token l t table q) .ledger ≡ l
+unfolding tokenAt
+token-unchanged l t table q =
+    token-cases l t table q (λ (o : Outcome). o .answer .number ≢ done → o .ledger ≡ l) (λ why u n. refl) (λ ok n. absurd (n refl))
+
+pub resource-unchanged : (l : List ℕ) (t : ℕ) (q : ResourceRequest) → (resource l t q) .answer .number ≢ done → (resource l t q) .ledger ≡ l
+resource-unchanged l t q =
+    resource-cases l t q (λ (o : Outcome). o .answer .number ≢ done → o .ledger ≡ l) (λ why u n. refl) (λ ok n. absurd (n refl))
+
+pub sweep-unchanged : (l : List ℕ) (t : ℕ) → (sweep l t) .answer .number ≢ done → (sweep l t) .ledger ≡ l
+sweep-unchanged l t =
+    sweep-cases l t (λ (o : Sweeping). o .answer .number ≢ done → o .ledger ≡ l) (λ why u n. refl) (λ ok n. absurd (n refl))

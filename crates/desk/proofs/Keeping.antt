@@ -1,33 +1,32 @@
 -- Soundness is kept: from a sound ledger every call leaves a sound one, and start leaves one. So are bytes. Assumes nothing.
-use Prim.Native.Nat.{ℕ, _+_, _*_, _≤_, _<_, _^_}
+use Prim.Native.Nat.{ℕ, _+_, _<_, _^_}
 use native.Mathlib.Omega.{arith}
 use mathlib.Core.Path.{_≡_, refl, sym, ap, _∙_}
-use mathlib.Core.Logic.{_≢_, _⊎_, inl, inr, ⊎-elim}
+use mathlib.Core.Logic.{_≢_, ⊎-elim}
 use mathlib.Core.Bool.{Bool, true, false, not, _&&_, _||_, cond, true≢false}
 use mathlib.Core.List.{List}
 use lib.Dec.{eqb}
 use lib.ListN.{length}
 use borrow.Author.Tests.{eqb-true, eqb-false, not-true}
-use Rattle.octets.specs.Lists.{some, place}
+use Rattle.octets.specs.Lists.{place}
 use Rattle.octets.specs.Parts.{zeros, blank}
 use Rattle.octets.proofs.Tests.{both, false-of}
 use Rattle.octets.proofs.Parts.{zeros-eq}
 use Rattle.octets.proofs.Numbers.{Octets}
-use Rattle.octets.proofs.Bytes.{octets-put, octets-part}
 use Rattle.forms.specs.Forms.{redirectFormed, challengeFormed}
 use Rattle.ledger.specs.Limits.{referenceLifetime, codeLifetime, tokenLifetime, lastNumber}
-use Rattle.ledger.specs.Fields.{nextNumber, rec, slots, records, inState, state, stateNumber, withRecord, withNext, withClock}
+use Rattle.ledger.specs.Fields.{nextNumber, rec, records, inState, state, stateNumber}
 use Rattle.ledger.specs.Sound.{sized, sound}
-use Rattle.ledger.specs.Checks.{untimely, isFree, isReference, isWith, isCode, taken}
-use Rattle.ledger.specs.Write.{pushed, consented, redeemed, free}
+use Rattle.ledger.specs.Checks.{isFree, isReference, isWith, isCode, taken}
+use Rattle.ledger.specs.Write.{redeemed, free}
 use Rattle.ledger.specs.Sweep.{swept}
 use Rattle.ledger.specs.declared.state.State.the-variants.{Free, Pushed, Consented, Redeemed}
 use Rattle.ledger.proofs.Heads.{next-left}
 use Rattle.ledger.proofs.Says.{either, of-sound}
-use Rattle.ledger.proofs.Searches.{First, first-in}
+use Rattle.ledger.proofs.Searches.{first-in}
 use Rattle.ledger.proofs.Kept.{sound-clock, sound-freed, sound-swept, sound-started, sound-pushed, sound-consented, sound-redeemed}
 use Rattle.ledger.proofs.Ranges.{octets-challenge, octets-redirect, octets-free, octets-rec, octets-pushed, octets-consented, octets-redeemed, octets-clock, octets-next, octets-with, octets-started, octets-swept}
-use Rattle.clients.specs.Fields.{client, id, authKey}
+use Rattle.clients.specs.Fields.{client, id}
 use Rattle.clients.specs.Known.{isKnown, placeOf, known}
 use Rattle.clients.specs.Sound.{sound as tableSound}
 use Rattle.clients.specs.declared.known.Known.the-variants.{At}
@@ -38,14 +37,14 @@ use Rattle.desk.specs.Requests.{PushRequest, DecideRequest, TokenRequest
 use Rattle.desk.specs.Push.{Outcome, pushRecord, pushAt, push}
 use Rattle.desk.specs.Decide.{Decision, referenceAt, consentRecord, consentAt, declineAt, decideAt, decide}
 use Rattle.desk.specs.Token.{codeAt, tokenRecord, tokenAt, token}
-use Rattle.desk.specs.Resource.{tokenPlace, resource}
+use Rattle.desk.specs.Resource.{resource}
 use Rattle.desk.specs.Sweep.{Sweeping, sweep}
-use Rattle.desk.specs.Start.{Started, leftAt, start, fresh}
+use Rattle.desk.specs.Start.{leftAt, start, fresh}
 use Rattle.desk.specs.declared.answer.Refusal.the-variants.{LedgerUnsound}
 use Rattle.desk.proofs.Written.{timely-lt}
 use Rattle.desk.proofs.Turns.{number-refused}
 use Rattle.desk.proofs.Rows.{push-cases, decide-cases, token-cases, resource-cases, sweep-cases}
-use Rattle.desk.proofs.Facts.{PushFacts, push-facts, DecideFacts, decide-facts, TokenFacts, token-facts, ResourceFacts, resource-facts, SweepFacts, sweep-facts}
+use Rattle.desk.proofs.Facts.{push-facts, DecideFacts, decide-facts, token-facts, resource-facts, sweep-facts}
 use Rattle.desk.proofs.Alone.{either-way}
 
 -- ---- what the types of a request say: fixed arrays have their lengths, numbers their widths, and bytes are below 256

@@ -1,7 +1,7 @@
 -- What each call answers: by its list of checks in order, with a number of that list, and zeros beside it where it refuses. Assumes nothing.
-use Prim.Native.Nat.{ℕ, _≤_}
+use Prim.Native.Nat.{ℕ}
 use mathlib.Core.Path.{_≡_, refl, sym, ap, _∙_}
-use mathlib.Core.Logic.{_≢_, _⊎_, inl, inr, ⊎-elim, _↔_}
+use mathlib.Core.Logic.{⊎-elim, _↔_}
 use mathlib.Core.Bool.{Bool, true, false, _||_, cond, or-true, false≢true}
 use lib.ListN.{length}
 use mathlib.Core.List.{List, [], _∷_, map}
@@ -12,7 +12,7 @@ use Rattle.ledger.specs.Fields.{records, rec, withClock}
 use Rattle.ledger.specs.Checks.{isFree}
 use Rattle.ledger.specs.Sound.{sized}
 use Rattle.ledger.specs.Sweep.{freed, swept}
-use Rattle.desk.specs.Answers.{numberOf, done, answerOf, refused, decided, undecided, sweptOf, unswept}
+use Rattle.desk.specs.Answers.{numberOf, done, answerOf, refused, undecided, sweptOf, unswept}
 use Rattle.desk.specs.Checks.{Check, Verdict, accepted, stopped, first}
 use Rattle.desk.specs.Requests.{PushRequest, DecideRequest, TokenRequest, ResourceRequest}
 use Rattle.desk.specs.Push.{Outcome, left, concludes, pushChecks, pushAt, push}
@@ -20,13 +20,10 @@ use Rattle.desk.specs.Decide.{Decision, leftBoth, concludesBoth, referen
 use Rattle.desk.specs.Token.{codeAt, tokenChecks, tokenAt, token}
 use Rattle.desk.specs.Resource.{tokenPlace, resourceChecks, readBy, look, resourceBy, resource}
 use Rattle.desk.specs.Sweep.{Sweeping, leftSwept, concludesSweep, sweepChecks, sweep}
-use Rattle.desk.specs.Start.{Started, leftAt, start, fresh}
-use Rattle.desk.specs.declared.answer.Answer.{Answer}
-use Rattle.desk.specs.declared.answer.Decided.{Decided}
-use Rattle.desk.specs.declared.answer.Swept.{Swept}
+use Rattle.desk.specs.Start.{leftAt, start, fresh}
 use Rattle.desk.specs.declared.answer.Refusal.{Refusal}
 use Rattle.desk.specs.declared.answer.Refusal.the-variants.{LedgerUnsound}
-use Rattle.desk.proofs.Turns.{Passed, Turn, first-passed, first-turn, by-turns, numberBy, number-accepted, number-stopped, number-refused, passes-exactly, turns-exactly}
+use Rattle.desk.proofs.Turns.{Passed, Turn, by-turns, numberBy, number-stopped, number-refused, passes-exactly, turns-exactly}
 
 -- ---- each call goes by its checks
 
