@@ -62,9 +62,13 @@ module _ (l : List ℕ) (t : ℕ) (table : List ℕ) (p : PushRequest) where
   unfolding pushChecks
   facts-push f = (
     ap not (f .ledger-sound),
-    (f .in-time,
-    (ap not (f .table-sound),
-    (ap not (f .known), (ap not (f .formed), (ap not (f .fits), (f .new, (ap not (f .room), (f .numbers-left, tt)))))))),
+    (
+      f .in-time,
+      (
+        ap not (f .table-sound),
+        (ap not (f .known), (ap not (f .formed), (ap not (f .fits), (f .new, (ap not (f .room), (f .numbers-left, tt)))))),
+      ),
+    ),
   )
 
 -- ---- decide
@@ -138,10 +142,16 @@ module _ (l : List ℕ) (t : ℕ) (table : List ℕ) (q : TokenRequest) where
   unfolding tokenChecks
   facts-token f = (
     ap not (f .ledger-sound),
-    (f .in-time,
-    (ap not (f .table-sound),
-    (ap not (f .known),
-    (f .key-set, (ap not (f .formed), (ap not (f .there), (f .unredeemed, (f .alive, (ap not (f .verified), (f .new, tt)))))))))),
+    (
+      f .in-time,
+      (
+        ap not (f .table-sound),
+        (
+          ap not (f .known),
+          (f .key-set, (ap not (f .formed), (ap not (f .there), (f .unredeemed, (f .alive, (ap not (f .verified), (f .new, tt))))))),
+        ),
+      ),
+    ),
   )
 
 -- ---- resource
