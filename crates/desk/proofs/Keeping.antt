@@ -1,13 +1,11 @@
 -- Soundness is kept: from a sound ledger every call leaves a sound one, and start leaves one. So are bytes. Assumes nothing.
 use Prim.Native.Nat.{ℕ, _+_, _<_, _^_}
 use native.Mathlib.Omega.{arith}
-use mathlib.Core.Path.{_≡_, refl, sym, ap, _∙_}
-use mathlib.Core.Logic.{_≢_, ⊎-elim}
-use mathlib.Core.Bool.{Bool, true, false, not, _&&_, _||_, cond, true≢false}
+use mathlib.Core.Path.{_≡_, refl, ap, _∙_}
+use mathlib.Core.Bool.{Bool, true, false, _&&_, cond}
 use mathlib.Core.List.{List}
-use lib.Dec.{eqb}
 use lib.ListN.{length}
-use borrow.Author.Tests.{eqb-true, eqb-false, not-true}
+use borrow.Author.Tests.{eqb-false}
 use Rattle.octets.specs.Lists.{place}
 use Rattle.octets.specs.Parts.{zeros, blank}
 use Rattle.octets.proofs.Tests.{both, false-of}
@@ -15,24 +13,20 @@ use Rattle.octets.proofs.Parts.{zeros-eq}
 use Rattle.octets.proofs.Numbers.{Octets}
 use Rattle.forms.specs.Forms.{redirectFormed, challengeFormed}
 use Rattle.ledger.specs.Limits.{referenceLifetime, codeLifetime, tokenLifetime, lastNumber}
-use Rattle.ledger.specs.Fields.{nextNumber, rec, records, inState, state, stateNumber}
+use Rattle.ledger.specs.Fields.{nextNumber, rec, records}
 use Rattle.ledger.specs.Sound.{sized, sound}
-use Rattle.ledger.specs.Checks.{isFree, isReference, isWith, isCode, taken}
-use Rattle.ledger.specs.Write.{redeemed, free}
+use Rattle.ledger.specs.Checks.{isFree, isReference, isCode, taken}
+use Rattle.ledger.specs.Write.{free}
 use Rattle.ledger.specs.Sweep.{swept}
-use Rattle.ledger.specs.declared.state.State.the-variants.{Free, Pushed, Consented, Redeemed}
 use Rattle.ledger.proofs.Heads.{next-left}
-use Rattle.ledger.proofs.Says.{either, of-sound}
+use Rattle.ledger.proofs.Says.{of-sound}
 use Rattle.ledger.proofs.Searches.{first-in}
 use Rattle.ledger.proofs.Kept.{sound-clock, sound-freed, sound-swept, sound-started, sound-pushed, sound-consented, sound-redeemed}
 use Rattle.ledger.proofs.Ranges.{octets-challenge, octets-redirect, octets-free, octets-rec, octets-pushed, octets-consented, octets-redeemed, octets-clock, octets-next, octets-with, octets-started, octets-swept}
-use Rattle.clients.specs.Fields.{client, id}
-use Rattle.clients.specs.Known.{isKnown, placeOf, known}
+use Rattle.clients.specs.Known.{isKnown, placeOf}
 use Rattle.clients.specs.Sound.{sound as tableSound}
-use Rattle.clients.specs.declared.known.Known.the-variants.{At}
-use Rattle.clients.proofs.Laws.{known-at, of-sound as of-table}
+use Rattle.clients.proofs.Laws.{of-sound as of-table}
 use Rattle.desk.specs.Answers.{done, numberOf}
-use Rattle.desk.specs.Checks.{scopeFits, within}
 use Rattle.desk.specs.Requests.{PushRequest, DecideRequest, TokenRequest, ResourceRequest}
 use Rattle.desk.specs.Push.{Outcome, pushRecord, pushAt, push}
 use Rattle.desk.specs.Decide.{Decision, referenceAt, consentRecord, consentAt, declineAt, decideAt, decide}
@@ -46,6 +40,7 @@ use Rattle.desk.proofs.Turns.{number-refused}
 use Rattle.desk.proofs.Rows.{push-cases, decide-cases, token-cases, resource-cases, sweep-cases}
 use Rattle.desk.proofs.Facts.{push-facts, DecideFacts, decide-facts, token-facts, resource-facts, sweep-facts}
 use Rattle.desk.proofs.Alone.{either-way}
+use Rattle.desk.proofs.Readings.{known-is, scope-says, free-says, reference-says, code-waits}
 
 -- ---- what the types of a request say: fixed arrays have their lengths, numbers their widths, and bytes are below 256
 
@@ -67,34 +62,11 @@ pub record TokenTyped (q : TokenRequest) : Type 0 where
   pub fresh-long : length (q .fresh) ≡ 32
   pub fresh-bytes : Octets (q .fresh)
 
--- ---- what the checks say, as the writers' laws want it
-
 -- a client that a sound table knows has an id that is not all zeros
 known-set : (table v key : List ℕ) → tableSound table ≡ true → isKnown table v key ≡ true → length v ≡ 16 → zeros v ≡ false
-unfolding known
 known-set table v key s e n =
-    let at : known table v key ≡ At (placeOf table v) = rw e in
-    let f = known-at table v key (placeOf table v) at .0 in
-    false-of (zeros v) (λ z. of-table table s .ids (placeOf table v) (f .inside) (f .has ∙ zeros-eq v z ∙ ap blank n))
-
-free-state : (r : List ℕ) → isFree r ≡ true → state r ≡ stateNumber Free
-unfolding isFree
-free-state r e = eqb-true (state r) 0 e
-
-reference-state : (v c r : List ℕ) → isReference v c r ≡ true → state r ≡ stateNumber Pushed
-unfolding isReference
-reference-state v c r e = eqb-true (state r) 1 (both (inState Pushed r) (isWith v c r) e .0)
-
--- 14, then 15: a code that is not redeemed
-code-state : (v c r : List ℕ) → isCode v c r ≡ true → inState Redeemed r ≡ false → state r ≡ stateNumber Consented
-unfolding isCode
-code-state v c r e n =
-    ⊎-elim (λ a. eqb-true (state r) 2 a) (λ b. absurd (true≢false (sym b ∙ n)))
-    (either (inState Consented r) (inState Redeemed r) (both (inState Consented r || inState Redeemed r) (isWith v c r) e .0))
-
-scope-set : (asked given : ℕ) → scopeFits asked given ≡ true → asked ≢ 0
-unfolding scopeFits
-scope-set asked given e = eqb-false asked 0 (not-true (eqb asked 0) (both (not (eqb asked 0)) (within asked given) e .0))
+    let f = known-is table v key e in
+    false-of (zeros v) (λ z. of-table table s .ids (placeOf table v) (f .inside) (f .id-is ∙ zeros-eq v z ∙ ap blank n))
 
 -- ---- push
 
@@ -111,8 +83,8 @@ module _ (l : List ℕ) (t : ℕ) (table : List ℕ) (p : PushRequest) where
       let least = of-sound l s .least in
       let (w, x) = both (redirectFormed (p .redirect)) (challengeFormed (p .challenge)) (f .formed) in
       sound-clock t _
-      (sound-pushed l k (p .scope) (t + referenceLifetime) (p .client) (p .challenge) (p .fresh) (p .redirect) s (a .inside) (free-state (rec l k) (a .passes))
-      (next-left l o (omega arith) (eqb-false (nextNumber l) lastNumber (f .numbers-left))) (scope-set (p .scope) _ (f .fits)) (y .scope-fits) (y .client-long)
+      (sound-pushed l k (p .scope) (t + referenceLifetime) (p .client) (p .challenge) (p .fresh) (p .redirect) s (a .inside) (free-says (rec l k) .0 (a .passes))
+      (next-left l o (omega arith) (eqb-false (nextNumber l) lastNumber (f .numbers-left))) (scope-says (p .scope) _ .0 (f .fits) .nonzero) (y .scope-fits) (y .client-long)
       (known-set table (p .client) (p .key) (f .table-sound) (f .known) (y .client-long)) x w (y .fresh-long) (f .new) (omega arith))
       h)
 
@@ -142,7 +114,7 @@ module _ (l : List ℕ) (t : ℕ) (d : DecideRequest) (out : List ℕ) where
       let k = referenceAt l d in
       let h = timely-lt l t (f .in-time) in
       sound-clock t _
-      (sound-consented l k (t + codeLifetime) (d .holder) (d .fresh) s (a .inside) (reference-state (d .reference) (d .client) (rec l k) (a .passes))
+      (sound-consented l k (t + codeLifetime) (d .holder) (d .fresh) s (a .inside) (reference-says (d .reference) (d .client) (rec l k) .0 (a .passes) .0)
       (eqb-false (d .holder) 0 (f .holder-set)) (y .holder-fits) (y .fresh-long) (new (d .yes) says (f .new)) (omega arith))
       h
     where
@@ -190,7 +162,7 @@ module _ (l : List ℕ) (t : ℕ) (table : List ℕ) (q : TokenRequest) where
       let k = codeAt l q in
       let h = timely-lt l t (f .in-time) in
       sound-clock t _
-      (sound-redeemed l k (t + tokenLifetime) (q .fresh) (q .presented) s (a .inside) (code-state (q .code) (q .client) (rec l k) (a .passes) (f .unredeemed))
+      (sound-redeemed l k (t + tokenLifetime) (q .fresh) (q .presented) s (a .inside) (code-waits (q .code) (q .client) (rec l k) (a .passes) (f .unredeemed) .0)
       (y .presented-long) (f .key-set) (y .fresh-long) (f .new) (omega arith))
       h)
 

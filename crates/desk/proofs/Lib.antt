@@ -10,5 +10,6 @@ pub mod Turns
 pub mod Rows
 pub mod Facts
 pub mod Alone
+pub mod Readings
 pub mod Keeping
 pub mod Accepting

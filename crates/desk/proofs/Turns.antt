@@ -93,7 +93,7 @@ by-turns cs P f g = go (first cs) refl
 
 -- ---- the same in the numbers of the table
 
--- the rows by their numbers; nothing stands at 0
+-- the rows by their numbers; no row has the number 0, so any may stand there
 rows : List Refusal
 rows =
     LedgerUnsound
