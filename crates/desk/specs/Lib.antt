@@ -10,3 +10,4 @@ pub mod Decide
 pub mod Token
 pub mod Resource
 pub mod Sweep
+pub mod Accepted

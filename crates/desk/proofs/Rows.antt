@@ -1,0 +1,260 @@
+-- What each call answers: by its list of checks in order, with a number of that list, and zeros beside it where it refuses. Assumes nothing.
+use Prim.Native.Nat.{ℕ}
+use mathlib.Core.Path.{_≡_, refl, sym, ap, _∙_}
+use mathlib.Core.Logic.{⊎-elim, _↔_}
+use mathlib.Core.Bool.{Bool, true, false, _||_, cond, or-true, false≢true}
+use lib.ListN.{length}
+use mathlib.Core.List.{List, [], _∷_, map}
+use lib.Dec.{eqb}
+use borrow.Author.Tests.{eq-eqb}
+use Rattle.octets.specs.Lists.{some, place}
+use Rattle.ledger.specs.Fields.{records, rec, withClock}
+use Rattle.ledger.specs.Checks.{isFree}
+use Rattle.ledger.specs.Sound.{sized}
+use Rattle.ledger.specs.Sweep.{freed, swept}
+use Rattle.desk.specs.Answers.{numberOf, done, answerOf, refused, undecided, sweptOf, unswept}
+use Rattle.desk.specs.Checks.{Check, Verdict, accepted, stopped, first}
+use Rattle.desk.specs.Requests.{PushRequest, DecideRequest, TokenRequest, ResourceRequest}
+use Rattle.desk.specs.Push.{Outcome, left, concludes, pushChecks, pushAt, push}
+use Rattle.desk.specs.Decide.{Decision, leftBoth, concludesBoth, referenceAt, decideChecks, consentAt, declineAt, decideAt, decide}
+use Rattle.desk.specs.Token.{codeAt, tokenChecks, tokenAt, token}
+use Rattle.desk.specs.Resource.{tokenPlace, resourceChecks, readBy, look, resourceBy, resource}
+use Rattle.desk.specs.Sweep.{Sweeping, leftSwept, concludesSweep, sweepChecks, sweep}
+use Rattle.desk.specs.Start.{leftAt, start, fresh}
+use Rattle.desk.specs.declared.answer.Refusal.{Refusal}
+use Rattle.desk.specs.declared.answer.Refusal.the-variants.{LedgerUnsound}
+use Rattle.desk.proofs.Turns.{Passed, Turn, by-turns, numberBy, number-stopped, number-refused, passes-exactly, turns-exactly}
+
+-- ---- each call goes by its checks
+
+module _ (l : List ℕ) (t : ℕ) (table : List ℕ) (p : PushRequest) where
+  pub push-cases : (P : Outcome → Type 0) → ((why : Refusal) → Turn why (pushChecks l t table p) → P (left (refused why) l))
+      → (Passed (pushChecks l t table p) → P (pushAt l t table p (place isFree (records l)))) → P (push l t table p)
+  unfolding push
+  push-cases P f g = by-turns (pushChecks l t table p) (λ (v : Verdict). P (concludes v l (pushAt l t table p (place isFree (records l))))) f g
+
+  push-number : (push l t table p) .answer .number ≡ numberBy (first (pushChecks l t table p))
+  unfolding push pushAt
+  push-number = by (first (pushChecks l t table p))
+    where
+      by : (v : Verdict) → (concludes v l (pushAt l t table p (place isFree (records l)))) .answer .number ≡ numberBy v
+      by accepted = refl
+      by (stopped why) = refl
+
+  -- 0 exactly when all pass
+  pub push-passed : ((push l t table p) .answer .number ≡ done) ↔ Passed (pushChecks l t table p)
+  push-passed = passes-exactly _ (pushChecks l t table p) push-number
+
+  -- a row's number exactly when its turn comes
+  pub push-turn : (why : Refusal) → ((push l t table p) .answer .number ≡ numberOf why) ↔ Turn why (pushChecks l t table p)
+  push-turn = turns-exactly _ (pushChecks l t table p) push-number
+
+module _ (l : List ℕ) (t : ℕ) (d : DecideRequest) (out : List ℕ) where
+  pub decide-cases : (P : Decision → Type 0)
+      → ((why : Refusal) → Turn why (decideChecks l t d out (referenceAt l d)) → P (leftBoth (undecided why) l out))
+      → (Passed (decideChecks l t d out (referenceAt l d)) → P (decideAt l t d out (referenceAt l d))) → P (decide l t d out)
+  unfolding decide
+  decide-cases P f g =
+      by-turns (decideChecks l t d out (referenceAt l d))
+      (λ (v : Verdict). P (concludesBoth v l out (decideAt l t d out (referenceAt l d)))) f g
+
+  decide-number : (decide l t d out) .answer .answer .number ≡ numberBy (first (decideChecks l t d out (referenceAt l d)))
+  unfolding decide decideAt consentAt declineAt
+  decide-number = by (first (decideChecks l t d out (referenceAt l d)))
+    where
+      at : (b : Bool) → (cond b (consentAt l t (d .holder) (d .fresh) out (referenceAt l d)) (declineAt l t (d .holder) out (referenceAt l d))) .answer .answer .number ≡ done
+      at true = refl
+      at false = refl
+
+      by : (v : Verdict) → (concludesBoth v l out (decideAt l t d out (referenceAt l d))) .answer .answer .number ≡ numberBy v
+      by accepted = at (d .yes)
+      by (stopped why) = refl
+
+  pub decide-passed : ((decide l t d out) .answer .answer .number ≡ done) ↔ Passed (decideChecks l t d out (referenceAt l d))
+  decide-passed = passes-exactly _ (decideChecks l t d out (referenceAt l d)) decide-number
+
+  pub decide-turn : (why : Refusal) → ((decide l t d out) .answer .answer .number ≡ numberOf why) ↔ Turn why (decideChecks l t d out (referenceAt l d))
+  decide-turn = turns-exactly _ (decideChecks l t d out (referenceAt l d)) decide-number
+
+module _ (l : List ℕ) (t : ℕ) (table : List ℕ) (q : TokenRequest) where
+  pub token-cases : (P : Outcome → Type 0) → ((why : Refusal) → Turn why (tokenChecks l t table q (codeAt l q)) → P (left (refused why) l))
+      → (Passed (tokenChecks l t table q (codeAt l q)) → P (tokenAt l t q (codeAt l q))) → P (token l t table q)
+  unfolding token
+  token-cases P f g =
+      by-turns (tokenChecks l t table q (codeAt l q)) (λ (v : Verdict). P (concludes v l (tokenAt l t q (codeAt l q)))) f g
+
+  token-number : (token l t table q) .answer .number ≡ numberBy (first (tokenChecks l t table q (codeAt l q)))
+  unfolding token tokenAt
+  token-number = by (first (tokenChecks l t table q (codeAt l q)))
+    where
+      by : (v : Verdict) → (concludes v l (tokenAt l t q (codeAt l q))) .answer .number ≡ numberBy v
+      by accepted = refl
+      by (stopped why) = refl
+
+  pub token-passed : ((token l t table q) .answer .number ≡ done) ↔ Passed (tokenChecks l t table q (codeAt l q))
+  token-passed = passes-exactly _ (tokenChecks l t table q (codeAt l q)) token-number
+
+  pub token-turn : (why : Refusal) → ((token l t table q) .answer .number ≡ numberOf why) ↔ Turn why (tokenChecks l t table q (codeAt l q))
+  token-turn = turns-exactly _ (tokenChecks l t table q (codeAt l q)) token-number
+
+module _ (l : List ℕ) (t : ℕ) (q : ResourceRequest) where
+  pub resource-cases : (P : Outcome → Type 0) → ((why : Refusal) → Turn why (resourceChecks l t q (tokenPlace l q)) → P (left (refused why) l))
+      → (Passed (resourceChecks l t q (tokenPlace l q)) → P (left (answerOf (rec l (tokenPlace l q))) (withClock t l))) → P (resource l t q)
+  unfolding resource look
+  resource-cases P f g =
+      by-turns (resourceChecks l t q (tokenPlace l q)) (λ (v : Verdict). P (resourceBy (readBy v (rec l (tokenPlace l q))) l t)) f g
+
+  resource-number : (resource l t q) .answer .number ≡ numberBy (first (resourceChecks l t q (tokenPlace l q)))
+  unfolding resource look
+  resource-number = by (first (resourceChecks l t q (tokenPlace l q)))
+    where
+      by : (v : Verdict) → (resourceBy (readBy v (rec l (tokenPlace l q))) l t) .answer .number ≡ numberBy v
+      by accepted = refl
+      by (stopped why) = refl
+
+  pub resource-passed : ((resource l t q) .answer .number ≡ done) ↔ Passed (resourceChecks l t q (tokenPlace l q))
+  resource-passed = passes-exactly _ (resourceChecks l t q (tokenPlace l q)) resource-number
+
+  pub resource-turn : (why : Refusal) → ((resource l t q) .answer .number ≡ numberOf why) ↔ Turn why (resourceChecks l t q (tokenPlace l q))
+  resource-turn = turns-exactly _ (resourceChecks l t q (tokenPlace l q)) resource-number
+
+module _ (l : List ℕ) (t : ℕ) where
+  pub sweep-cases : (P : Sweeping → Type 0) → ((why : Refusal) → Turn why (sweepChecks l t) → P (leftSwept (unswept why) l))
+      → (Passed (sweepChecks l t) → P (leftSwept (sweptOf (freed t l)) (withClock t (swept t l)))) → P (sweep l t)
+  unfolding sweep
+  sweep-cases P f g =
+      by-turns (sweepChecks l t)
+      (λ (v : Verdict). P (concludesSweep v l (leftSwept (sweptOf (freed t l)) (withClock t (swept t l))))) f g
+
+  sweep-number : (sweep l t) .answer .number ≡ numberBy (first (sweepChecks l t))
+  unfolding sweep
+  sweep-number = by (first (sweepChecks l t))
+    where
+      by : (v : Verdict) → (concludesSweep v l (leftSwept (sweptOf (freed t l)) (withClock t (swept t l)))) .answer .number ≡ numberBy v
+      by accepted = refl
+      by (stopped why) = refl
+
+  pub sweep-passed : ((sweep l t) .answer .number ≡ done) ↔ Passed (sweepChecks l t)
+  sweep-passed = passes-exactly _ (sweepChecks l t) sweep-number
+
+  pub sweep-turn : (why : Refusal) → ((sweep l t) .answer .number ≡ numberOf why) ↔ Turn why (sweepChecks l t)
+  sweep-turn = turns-exactly _ (sweepChecks l t) sweep-number
+
+-- start has one check: the length
+module _ (l : List ℕ) where
+  pub start-passed : ((start l) .number ≡ done) ↔ (sized l ≡ true)
+  unfolding start
+  start-passed = by (sized l)
+    where
+      by : (b : Bool) → ((cond b (leftAt done (fresh (length l))) (leftAt (numberOf LedgerUnsound) l)) .number ≡ done) ↔ (b ≡ true)
+      by true = (λ e. refl, λ e. refl)
+      by false = (λ e. absurd (number-refused LedgerUnsound e), λ e. absurd (false≢true e))
+
+-- ---- demand 1: each call's number is 0 or one of those that its list names
+
+-- the numbers that a list of checks can end with
+abbrev pub numbersOf : List Check → List ℕ
+numbersOf cs = done ∷ map (λ (c : Check). numberOf (c .why)) cs
+
+-- n is one of these
+abbrev pub isOneOf : List ℕ → ℕ → Bool
+isOneOf ns n = some (eqb n) ns
+
+or-left : (a b : Bool) → a ≡ true → (a || b) ≡ true
+or-left a b e = rw e
+
+or-right : (a b : Bool) → b ≡ true → (a || b) ≡ true
+or-right a b e = rw e (or-true a)
+
+turn-listed : (why : Refusal) (cs : List Check) → Turn why cs → some (eqb (numberOf why)) (map (λ (c : Check). numberOf (c .why)) cs) ≡ true
+turn-listed why [] t = absurd t
+turn-listed why (c ∷ cs) t =
+    ⊎-elim
+    (λ x. or-left (eqb (numberOf why) (numberOf (c .why))) _ (eq-eqb (numberOf why) (numberOf (c .why)) (ap numberOf (sym (x .1)))))
+    (λ y. or-right (eqb (numberOf why) (numberOf (c .why))) _ (turn-listed why cs (y .1)))
+    t
+
+pub first-listed : (cs : List Check) → isOneOf (numbersOf cs) (numberBy (first cs)) ≡ true
+first-listed cs =
+    by-turns cs (λ (v : Verdict). isOneOf (numbersOf cs) (numberBy v) ≡ true)
+    (λ why t. or-right (eqb (numberOf why) done) _ (turn-listed why cs t)) (λ p. refl)
+
+listed : (n : ℕ) (cs : List Check) → n ≡ numberBy (first cs) → isOneOf (numbersOf cs) n ≡ true
+listed n cs e = ap (isOneOf (numbersOf cs)) e ∙ first-listed cs
+
+pub push-numbers : (l : List ℕ) (t : ℕ) (table : List ℕ) (p : PushRequest)
+    → isOneOf (0 ∷ 1 ∷ 2 ∷ 3 ∷ 4 ∷ 5 ∷ 6 ∷ 7 ∷ 8 ∷ 9 ∷ []) ((push l t table p) .answer .number) ≡ true
+unfolding pushChecks
+push-numbers l t table p = listed _ (pushChecks l t table p) (push-number l t table p)
+
+pub decide-numbers : (l : List ℕ) (t : ℕ) (d : DecideRequest) (out : List ℕ)
+    → isOneOf (0 ∷ 1 ∷ 2 ∷ 20 ∷ 10 ∷ 11 ∷ 12 ∷ 7 ∷ []) ((decide l t d out) .answer .answer .number) ≡ true
+unfolding decideChecks
+decide-numbers l t d out = listed _ (decideChecks l t d out (referenceAt l d)) (decide-number l t d out)
+
+pub token-numbers : (l : List ℕ) (t : ℕ) (table : List ℕ) (q : TokenRequest)
+    → isOneOf (0 ∷ 1 ∷ 2 ∷ 3 ∷ 4 ∷ 13 ∷ 5 ∷ 14 ∷ 15 ∷ 11 ∷ 16 ∷ 7 ∷ []) ((token l t table q) .answer .number) ≡ true
+unfolding tokenChecks
+token-numbers l t table q = listed _ (tokenChecks l t table q (codeAt l q)) (token-number l t table q)
+
+pub resource-numbers : (l : List ℕ) (t : ℕ) (q : ResourceRequest)
+    → isOneOf (0 ∷ 1 ∷ 2 ∷ 17 ∷ 11 ∷ 18 ∷ 6 ∷ 19 ∷ []) ((resource l t q) .answer .number) ≡ true
+unfolding resourceChecks
+resource-numbers l t q = listed _ (resourceChecks l t q (tokenPlace l q)) (resource-number l t q)
+
+pub sweep-numbers : (l : List ℕ) (t : ℕ) → isOneOf (0 ∷ 1 ∷ 2 ∷ []) ((sweep l t) .answer .number) ≡ true
+unfolding sweepChecks
+sweep-numbers l t = listed _ (sweepChecks l t) (sweep-number l t)
+
+pub start-numbers : (l : List ℕ) → isOneOf (0 ∷ 1 ∷ []) ((start l) .number) ≡ true
+unfolding start
+start-numbers l = by (sized l)
+  where
+    by : (b : Bool) → isOneOf (0 ∷ 1 ∷ []) ((cond b (leftAt done (fresh (length l))) (leftAt (numberOf LedgerUnsound) l)) .number) ≡ true
+    by true = refl
+    by false = refl
+
+-- ---- "A refusal has zeros beside its number and changes no lent byte, clock included."
+
+pub push-refusal : (l : List ℕ) (t : ℕ) (table : List ℕ) (p : PushRequest) (why : Refusal)
+    → (push l t table p) .answer .number ≡ numberOf why → push l t table p ≡ left (refused why) l
+unfolding push
+push-refusal l t table p why e =
+    ap (λ (v : Verdict). concludes v l (pushAt l t table p (place isFree (records l))))
+    (number-stopped (first (pushChecks l t table p)) why (sym (push-number l t table p) ∙ e))
+
+pub decide-refusal : (l : List ℕ) (t : ℕ) (d : DecideRequest) (out : List ℕ) (why : Refusal)
+    → (decide l t d out) .answer .answer .number ≡ numberOf why → decide l t d out ≡ leftBoth (undecided why) l out
+unfolding decide
+decide-refusal l t d out why e =
+    ap (λ (v : Verdict). concludesBoth v l out (decideAt l t d out (referenceAt l d)))
+    (number-stopped (first (decideChecks l t d out (referenceAt l d))) why (sym (decide-number l t d out) ∙ e))
+
+pub token-refusal : (l : List ℕ) (t : ℕ) (table : List ℕ) (q : TokenRequest) (why : Refusal)
+    → (token l t table q) .answer .number ≡ numberOf why → token l t table q ≡ left (refused why) l
+unfolding token
+token-refusal l t table q why e =
+    ap (λ (v : Verdict). concludes v l (tokenAt l t q (codeAt l q)))
+    (number-stopped (first (tokenChecks l t table q (codeAt l q))) why (sym (token-number l t table q) ∙ e))
+
+pub resource-refusal : (l : List ℕ) (t : ℕ) (q : ResourceRequest) (why : Refusal)
+    → (resource l t q) .answer .number ≡ numberOf why → resource l t q ≡ left (refused why) l
+unfolding resource look
+resource-refusal l t q why e =
+    ap (λ (v : Verdict). resourceBy (readBy v (rec l (tokenPlace l q))) l t)
+    (number-stopped (first (resourceChecks l t q (tokenPlace l q))) why (sym (resource-number l t q) ∙ e))
+
+pub sweep-refusal : (l : List ℕ) (t : ℕ) (why : Refusal) → (sweep l t) .answer .number ≡ numberOf why → sweep l t ≡ leftSwept (unswept why) l
+unfolding sweep
+sweep-refusal l t why e =
+    ap (λ (v : Verdict). concludesSweep v l (leftSwept (sweptOf (freed t l)) (withClock t (swept t l))))
+    (number-stopped (first (sweepChecks l t)) why (sym (sweep-number l t) ∙ e))
+
+pub start-refusal : (l : List ℕ) → (start l) .number ≡ numberOf LedgerUnsound → (start l) .ledger ≡ l
+unfolding start
+start-refusal l = by (sized l)
+  where
+    by : (b : Bool) → (cond b (leftAt done (fresh (length l))) (leftAt (numberOf LedgerUnsound) l)) .number ≡ numberOf LedgerUnsound
+        → (cond b (leftAt done (fresh (length l))) (leftAt (numberOf LedgerUnsound) l)) .ledger ≡ l
+    by true e = absurd (number-refused LedgerUnsound (sym e))
+    by false e = refl
