@@ -10,4 +10,3 @@ pub mod Decide
 pub mod Token
 pub mod Resource
 pub mod Sweep
-pub mod Accepted

@@ -20,15 +20,15 @@ use Rattle.ledger.specs.Limits.{clockLimit}
 use Rattle.ledger.specs.Fields.{clock, records, state, stateNumber, inState, expiry, client, value, token}
 use Rattle.ledger.specs.Checks.{untimely, isFree, isWith, isReference, isCode, isToken, expired, taken}
 use Rattle.ledger.specs.declared.state.State.the-variants.{Free, Pushed, Consented, Redeemed}
-use Rattle.ledger.proofs.Says.{either, neither}
-use Rattle.ledger.proofs.Searches.{First, some-in, first-in, first-place, fresh-in, fresh-taken}
+use Rattle.upkeep.proofs.Says.{either, neither}
+use Rattle.upkeep.proofs.Searches.{First, some-in, first-in, first-place, fresh-in, fresh-taken}
 use Rattle.clients.specs.Known.{isKnown, placeOf, known}
 use Rattle.clients.specs.Sound.{sound as tableSound}
 use Rattle.clients.specs.declared.known.Known.the-variants.{At}
 use Rattle.clients.proofs.Laws.{known-at, known-sound}
 use Rattle.desk.specs.Checks.{scopeFits, within}
-use Rattle.desk.specs.Accepted.{InTime, KnownAt, RedirectWell, ChallengeWell, VerifierWell, ScopeWithin, FreshValue}
+use Rattle.conduct.specs.Accepted.{InTime, KnownAt, RedirectWell, ChallengeWell, VerifierWell, ScopeWithin, FreshValue}
 use Rattle.desk.proofs.Told.{known-told, known-place}
 
 -- ---- what several calls ask
 

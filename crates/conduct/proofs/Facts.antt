@@ -18,15 +18,15 @@ use Rattle.ledger.specs.declared.state.State.the-variants.{Redeemed}
 use Rattle.clients.specs.Fields.{permitted}
 use Rattle.clients.specs.Known.{isKnown}
 use Rattle.clients.specs.Sound.{sound as tableSound}
 use Rattle.desk.specs.Limits.{outputLeast}
 use Rattle.desk.specs.Checks.{scopeFits}
 use Rattle.desk.specs.Requests.{PushRequest, DecideRequest, TokenRequest, ResourceRequest}
 use Rattle.desk.specs.Push.{asker, pushChecks}
 use Rattle.desk.specs.Decide.{referenceAt, decideChecks}
 use Rattle.desk.specs.Token.{codeAt, tokenChecks}
 use Rattle.desk.specs.Resource.{tokenPlace, resourceChecks}
 use Rattle.desk.specs.Sweep.{sweepChecks}
-use Rattle.desk.proofs.Turns.{Passed}
+use Rattle.conduct.proofs.Turns.{Passed}
 
 -- ---- push
 

@@ -20,24 +20,24 @@ use Rattle.ledger.specs.Checks.{isFree, isReference, isCode, expired}
 use Rattle.ledger.specs.Write.{pushed, consented, redeemed, free}
 use Rattle.ledger.specs.Sweep.{sweptRecord, swept}
 use Rattle.ledger.proofs.Records.{slot-within, rec-length, length-with, rec-other}
-use Rattle.ledger.proofs.Heads.{length-clock, rec-clock, next-clock, rest-clock, clock-is, length-next, rec-next, rest-next, next-is, next-with, rest-with, next-left}
-use Rattle.ledger.proofs.Puts.{drop-put}
+use Rattle.upkeep.proofs.Heads.{length-clock, rec-clock, next-clock, rest-clock, clock-is, length-next, rec-next, rest-next, next-is, next-with, rest-with, next-left}
+use Rattle.upkeep.proofs.Puts.{drop-put}
 use Rattle.ledger.proofs.Swept.{length-free, length-to, rec-ahead, rec-swept}
-use Rattle.ledger.proofs.Kept.{head-swept}
-use Rattle.ledger.proofs.Says.{of-sound}
-use Rattle.ledger.proofs.Searches.{first-in}
+use Rattle.upkeep.proofs.Kept.{head-swept}
+use Rattle.upkeep.proofs.Says.{of-sound}
+use Rattle.upkeep.proofs.Searches.{first-in}
 use Rattle.desk.specs.Limits.{outputLeast}
 use Rattle.desk.specs.Answers.{done}
 use Rattle.desk.specs.Requests.{PushRequest, DecideRequest, TokenRequest, ResourceRequest}
 use Rattle.desk.specs.Push.{Outcome, pushRecord, pushAt, push}
 use Rattle.desk.specs.Decide.{Decision, referenceAt, handedOut, consentRecord, consentAt, declineAt, decideAt, decide}
 use Rattle.desk.specs.Token.{codeAt, tokenRecord, tokenAt, token}
 use Rattle.desk.specs.Resource.{resource}
 use Rattle.desk.specs.Sweep.{Sweeping, sweep}
 use Rattle.desk.proofs.Written.{timely-lt}
-use Rattle.desk.proofs.Turns.{number-refused}
-use Rattle.desk.proofs.Rows.{push-cases, decide-cases, token-cases, resource-cases, sweep-cases}
-use Rattle.desk.proofs.Facts.{PushFacts, push-facts, DecideFacts, decide-facts, TokenFacts, token-facts, resource-facts, sweep-facts}
+use Rattle.conduct.proofs.Turns.{number-refused}
+use Rattle.conduct.proofs.Rows.{push-cases, decide-cases, token-cases, resource-cases, sweep-cases}
+use Rattle.conduct.proofs.Facts.{PushFacts, push-facts, DecideFacts, decide-facts, TokenFacts, token-facts, resource-facts, sweep-facts}
 
 -- ---- one record rewritten, and the clock
 

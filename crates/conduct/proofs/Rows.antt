@@ -12,18 +12,18 @@ use Rattle.ledger.specs.Fields.{records, rec, withClock}
 use Rattle.ledger.specs.Checks.{isFree}
 use Rattle.ledger.specs.Sound.{sized}
 use Rattle.ledger.specs.Sweep.{freed, swept}
 use Rattle.desk.specs.Answers.{numberOf, done, answerOf, refused, undecided, sweptOf, unswept}
 use Rattle.desk.specs.Checks.{Check, Verdict, accepted, stopped, first}
 use Rattle.desk.specs.Requests.{PushRequest, DecideRequest, TokenRequest, ResourceRequest}
 use Rattle.desk.specs.Push.{Outcome, left, concludes, pushChecks, pushAt, push}
 use Rattle.desk.specs.Decide.{Decision, leftBoth, concludesBoth, referenceAt, decideChecks, consentAt, declineAt, decideAt, decide}
 use Rattle.desk.specs.Token.{codeAt, tokenChecks, tokenAt, token}
 use Rattle.desk.specs.Resource.{tokenPlace, resourceChecks, readBy, look, resourceBy, resource}
 use Rattle.desk.specs.Sweep.{Sweeping, leftSwept, concludesSweep, sweepChecks, sweep}
 use Rattle.desk.specs.Start.{leftAt, start, fresh}
 use Rattle.desk.specs.declared.answer.Refusal.{Refusal}
 use Rattle.desk.specs.declared.answer.Refusal.the-variants.{LedgerUnsound}
-use Rattle.desk.proofs.Turns.{Passed, Turn, by-turns, numberBy, number-stopped, number-refused, passes-exactly, turns-exactly}
+use Rattle.conduct.proofs.Turns.{Passed, Turn, by-turns, numberBy, number-stopped, number-refused, passes-exactly, turns-exactly}
 
 -- ---- each call goes by its checks
 

@@ -18,29 +18,29 @@ use Rattle.ledger.specs.Sound.{sized, sound}
 use Rattle.ledger.specs.Checks.{isFree, isReference, isCode, taken}
 use Rattle.ledger.specs.Write.{free}
 use Rattle.ledger.specs.Sweep.{swept}
-use Rattle.ledger.proofs.Heads.{next-left}
-use Rattle.ledger.proofs.Says.{of-sound}
-use Rattle.ledger.proofs.Searches.{first-in}
-use Rattle.ledger.proofs.Kept.{sound-clock, sound-freed, sound-swept, sound-started, sound-pushed, sound-consented, sound-redeemed}
-use Rattle.ledger.proofs.Ranges.{octets-challenge, octets-redirect, octets-free, octets-rec, octets-pushed, octets-consented, octets-redeemed, octets-clock, octets-next, octets-with, octets-started, octets-swept}
+use Rattle.upkeep.proofs.Heads.{next-left}
+use Rattle.upkeep.proofs.Says.{of-sound}
+use Rattle.upkeep.proofs.Searches.{first-in}
+use Rattle.upkeep.proofs.Kept.{sound-clock, sound-freed, sound-swept, sound-started, sound-pushed, sound-consented, sound-redeemed}
+use Rattle.upkeep.proofs.Ranges.{octets-challenge, octets-redirect, octets-free, octets-rec, octets-pushed, octets-consented, octets-redeemed, octets-clock, octets-next, octets-with, octets-started, octets-swept}
 use Rattle.clients.specs.Known.{isKnown, placeOf}
 use Rattle.clients.specs.Sound.{sound as tableSound}
 use Rattle.clients.proofs.Laws.{of-sound as of-table}
 use Rattle.desk.specs.Answers.{done, numberOf}
 use Rattle.desk.specs.Requests.{PushRequest, DecideRequest, TokenRequest, ResourceRequest}
 use Rattle.desk.specs.Push.{Outcome, pushRecord, pushAt, push}
 use Rattle.desk.specs.Decide.{Decision, referenceAt, consentRecord, consentAt, declineAt, decideAt, decide}
 use Rattle.desk.specs.Token.{codeAt, tokenRecord, tokenAt, token}
 use Rattle.desk.specs.Resource.{resource}
 use Rattle.desk.specs.Sweep.{Sweeping, sweep}
 use Rattle.desk.specs.Start.{leftAt, start, fresh}
 use Rattle.desk.specs.declared.answer.Refusal.the-variants.{LedgerUnsound}
 use Rattle.desk.proofs.Written.{timely-lt}
-use Rattle.desk.proofs.Turns.{number-refused}
-use Rattle.desk.proofs.Rows.{push-cases, decide-cases, token-cases, resource-cases, sweep-cases}
-use Rattle.desk.proofs.Facts.{push-facts, DecideFacts, decide-facts, token-facts, resource-facts, sweep-facts}
-use Rattle.desk.proofs.Alone.{either-way}
-use Rattle.desk.proofs.Readings.{known-is, scope-says, free-says, reference-says, code-waits}
+use Rattle.conduct.proofs.Turns.{number-refused}
+use Rattle.conduct.proofs.Rows.{push-cases, decide-cases, token-cases, resource-cases, sweep-cases}
+use Rattle.conduct.proofs.Facts.{push-facts, DecideFacts, decide-facts, token-facts, resource-facts, sweep-facts}
+use Rattle.conduct.proofs.Alone.{either-way}
+use Rattle.conduct.proofs.Readings.{known-is, scope-says, free-says, reference-says, code-waits}
 
 -- ---- what the types of a request say: fixed arrays have their lengths, numbers their widths, and bytes are below 256
 

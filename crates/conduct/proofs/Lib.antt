@@ -1,0 +1,8 @@
+-- What the calls keep to.
+pub mod Turns
+pub mod Rows
+pub mod Readings
+pub mod Facts
+pub mod Alone
+pub mod Keeping
+pub mod Accepting

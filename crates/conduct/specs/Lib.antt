@@ -1,0 +1,2 @@
+-- Acceptance in plain words.
+pub mod Accepted
