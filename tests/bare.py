@@ -40,8 +40,8 @@ SMALL = {
 }
 LIMITS = "Limits.antt"
 FIELD_PLACES = {"Fields.antt", "Layout.antt"}
-# The edges P1 to P12 are written with the paper's own numbers, so that a wrong limit shows.
-EXEMPT = {"cases/specs"}
+# The edges P1 to P12, the verdicts and the plays are written with the paper's own numbers, so that a wrong limit shows.
+EXEMPT = {"cases/specs", "plays/src", "verdicts/src"}
 
 RATTLE_SKIP = re.compile(r'//[^\n]*|/\*.*?\*/|b?"(?:\\.|[^"\\])*"|b?\'(?:\\.|[^\'\\])\'', re.S)
 ANTT_SKIP = re.compile(r"(?<!\S)--[^\n]*|\{-.*?-\}", re.S)

@@ -22,7 +22,7 @@ near p q s = eqb (lead (value s)) p || (eqb (lead (value s)) q || (eqb (lead (to
 
 -- a record that holds nothing
 unfoldable pub idle : List ℕ → Bool
-idle r = zeros (part r 96 64)
+idle r = zeros (part r 96 (32 + 32))
 
 -- the first of n places to compare place i with: none where it has nothing to compare
 unfoldable pub partner : Bool → ℕ → ℕ → ℕ
