@@ -1,0 +1,202 @@
+-- Each record in use is tied to the history of its grant number. Assumes nothing.
+use Prim.Native.Nat.{ℕ, zero, suc, _+_, _<_, _≤_}
+use native.Mathlib.Omega.{arith}
+use native.Mathlib.Decide.{ℕ-discrete, decLt}
+use mathlib.Core.Path.{_≡_, refl, sym, ap, _∙_}
+use mathlib.Core.Logic.{_≢_}
+use mathlib.Core.Bool.{Bool, true, false, _&&_, cond}
+use mathlib.Core.List.{List, [], _∷_, reverse}
+use lib.Dec.{eqb}
+use lib.ListN.{length, getD, set, List·getD-eq-default}
+use lib.Seq.{getD-set-same, getD-set-other}
+use borrow.Author.Tests.{eq-eqb, ne-eqb}
+use Rattle.s256.specs.Rule.{matches}
+use Rattle.ledger.specs.Limits.{referenceLifetime, codeLifetime, tokenLifetime}
+use Rattle.ledger.specs.Fields.{clock, nextNumber, rec, slots, records, state, scope, grant, expiry, holder, client, challenge, token as tokenField, boundKey}
+use Rattle.ledger.specs.Sound.{sound}
+use Rattle.ledger.proofs.Records.{length-records, records-at}
+use Rattle.upkeep.proofs.Says.{of-sound}
+use Rattle.desk.specs.Requests.{PushRequest, DecideRequest, TokenRequest}
+use Rattle.history.specs.Runs.{Call, push, decide, token, resource, sweep, Step}
+use Rattle.history.specs.Histories.{concerns, history, Life}
+use Rattle.history.proofs.Effects.{Wrote}
+
+-- ---- the records by their places: behind the last one stands the empty list, which is in state 0
+
+pub at-none : (l : List ℕ) (j : ℕ) → slots l ≤ j → getD (records l) j [] ≡ []
+at-none l j h = List·getD-eq-default (records l) [] (rw (length-records l) h)
+
+pub used-inside : (l : List ℕ) (j : ℕ) → state (getD (records l) j []) ≢ 0 → j < slots l
+used-inside l j u = go (decLt j (slots l))
+  where
+    go : Dec (j < slots l) → j < slots l
+    go (yes h) = h
+    go (no h) = absurd (u (ap state (at-none l j (omega (arith, h)))))
+
+-- what soundness says of them
+pub grant-below : (l : List ℕ) → sound l ≡ true → (j : ℕ) → state (getD (records l) j []) ≢ 0 → grant (getD (records l) j []) < nextNumber l
+grant-below l e j u =
+    let h = used-inside l j u in
+    let r = records-at l j h in
+    rw r (of-sound l e .within .each j h .when-used (rw r at u) .grant-most)
+
+pub grants-apart : (l : List ℕ) → sound l ≡ true → (i j : ℕ) → i ≢ j → state (getD (records l) i []) ≢ 0 → state (getD (records l) j []) ≢ 0
+    → grant (getD (records l) i []) ≢ grant (getD (records l) j [])
+grants-apart l e i j n u v =
+    let h = used-inside l i u in
+    let m = used-inside l j v in
+    let a = records-at l i h in
+    let b = records-at l j m in
+    rw (a, b) (of-sound l e .within .grants i j h m n (rw a at u) (rw b at v))
+
+-- ---- what a history says of the fields of a record
+
+pub record PushedBy (id : List ℕ) (bits : ℕ) (text : List ℕ) (h : List Call) : Type 0 where
+  pub t : ℕ
+  pub table : List ℕ
+  pub p : PushRequest
+  pub only : h ≡ push t table p ∷ []
+  pub by : p .client ≡ id
+  pub asks : p .scope ≡ bits
+  pub commits : p .challenge ≡ text
+
+pub record ConsentedBy (id : List ℕ) (bits : ℕ) (text : List ℕ) (who : ℕ) (h : List Call) : Type 0 where
+  pub t : ℕ
+  pub d : DecideRequest
+  pub out : List ℕ
+  pub earlier : List Call
+  pub only : h ≡ decide t d out ∷ earlier
+  pub yes : d .yes ≡ true
+  pub by : d .client ≡ id
+  pub given : d .holder ≡ who
+  pub was : PushedBy id bits text earlier
+  pub after : was .t ≤ t
+  pub soon : t < was .t + referenceLifetime
+
+pub record RedeemedBy (id : List ℕ) (bits : ℕ) (text : List ℕ) (who : ℕ) (shown key : List ℕ) (h : List Call) : Type 0 where
+  pub t : ℕ
+  pub table : List ℕ
+  pub q : TokenRequest
+  pub earlier : List Call
+  pub only : h ≡ token t table q ∷ earlier
+  pub by : q .client ≡ id
+  pub issued : q .fresh ≡ shown
+  pub bound : q .presented ≡ key
+  pub verified : matches (q .verifier) text ≡ true
+  pub was : ConsentedBy id bits text who earlier
+
+-- with the expiry that the latest call wrote
+pub record TiedPushed (r : List ℕ) (h : List Call) : Type 0 where
+  pub was : PushedBy (client r) (scope r) (challenge r) h
+  pub until : expiry r ≡ was .t + referenceLifetime
+
+pub record TiedConsented (r : List ℕ) (h : List Call) : Type 0 where
+  pub was : ConsentedBy (client r) (scope r) (challenge r) (holder r) h
+  pub until : expiry r ≡ was .t + codeLifetime
+
+pub record TiedRedeemed (r : List ℕ) (h : List Call) : Type 0 where
+  pub was : RedeemedBy (client r) (scope r) (challenge r) (holder r) (tokenField r) (boundKey r) h
+  pub until : expiry r ≡ was .t + tokenLifetime
+
+pub record Linked (r : List ℕ) (h : List Call) : Type 0 where
+  pub when-pushed : state r ≡ 1 → TiedPushed r h
+  pub when-consented : state r ≡ 2 → TiedConsented r h
+  pub when-redeemed : state r ≡ 3 → TiedRedeemed r h
+
+abbrev pub Tied : List Step → List ℕ → Type 0
+Tied tr r = Linked r (history (grant r) tr)
+
+-- a free record is tied to nothing
+pub tied-free : (tr : List Step) (r : List ℕ) → state r ≡ 0 → Tied tr r
+tied-free tr r e = record { when-pushed = λ f. absurd (omega arith); when-consented = λ f. absurd (omega arith); when-redeemed = λ f. absurd (omega arith) }
+
+-- ---- one step more
+
+pub history-in : (g : ℕ) (s : Step) (tr : List Step) → concerns g (s .call) (s .answer) ≡ true → history g (s ∷ tr) ≡ s .call ∷ history g tr
+unfolding history
+history-in g s tr e = rw e
+
+pub history-out : (g : ℕ) (s : Step) (tr : List Step) → concerns g (s .call) (s .answer) ≡ false → history g (s ∷ tr) ≡ history g tr
+unfolding history
+history-out g s tr e = rw e
+
+-- a record keeps its tie as long as its history stands
+pub carry : (r : List ℕ) (s : Step) (tr : List Step) → (state r ≢ 0 → concerns (grant r) (s .call) (s .answer) ≡ false) → Tied tr r → Tied (s ∷ tr) r
+carry r s tr out k = go (ℕ-discrete (state r) 0)
+  where
+    go : Dec (state r ≡ 0) → Tied (s ∷ tr) r
+    go (yes e) = tied-free (s ∷ tr) r e
+    go (no n) = rw (history-out (grant r) s tr (out n)) k
+
+-- the time of a call
+abbrev pub nowOf : Call → ℕ
+nowOf (push t table p) = t
+nowOf (decide t d out) = t
+nowOf (token t table q) = t
+nowOf (resource t q) = t
+nowOf (sweep t) = t
+
+-- no call of a history is later than the clock
+abbrev pub Upto : ℕ → List Call → Type 0
+Upto t [] = Unit {0}
+Upto t (c ∷ cs) = (nowOf c ≤ t) × Upto t cs
+
+pub upto-later : (t u : ℕ) (h : List Call) → t ≤ u → Upto t h → Upto u h
+upto-later t u [] b x = tt
+upto-later t u (c ∷ cs) b x = (omega arith, upto-later t u cs b (x .1))
+
+-- ---- the invariant
+
+pub record Inv (l : List ℕ) (tr : List Step) : Type 0 where
+  pub tied : (j : ℕ) → Tied tr (getD (records l) j [])
+  pub unborn : (g : ℕ) → nextNumber l ≤ g → history g tr ≡ []
+  pub past : (g : ℕ) → Upto (clock l) (history g tr)
+  pub life : (g : ℕ) → Life (reverse (history g tr))
+
+-- a step that no number's history holds, and that leaves each record as it was or free
+pub idle : (l m : List ℕ) (tr : List Step) (s : Step) → ((g : ℕ) → concerns g (s .call) (s .answer) ≡ false)
+    → ((j : ℕ) → Tied tr (getD (records m) j [])) → nextNumber m ≡ nextNumber l → clock l ≤ clock m → Inv l tr → Inv m (s ∷ tr)
+idle l m tr s out ties n c inv =
+    record {
+      tied = λ j. carry (getD (records m) j []) s tr (λ u. out _) (ties j);
+      unborn = λ g b. history-out g s tr (out g) ∙ inv .unborn g (omega arith);
+      past = λ g. rw (history-out g s tr (out g)) (upto-later (clock l) (clock m) (history g tr) c (inv .past g));
+      life = λ g. rw (history-out g s tr (out g)) (inv .life g);
+    }
+
+-- a step of the number g that leaves r at the place k
+pub event : (l m : List ℕ) (tr : List Step) (s : Step) (t next k : ℕ) (r : List ℕ) (g : ℕ)
+    → Inv l tr → Wrote l t next k r m → nextNumber l ≤ next → g < next → nowOf (s .call) ≡ t
+    → ((f : ℕ) → concerns f (s .call) (s .answer) ≡ eqb f g)
+    → ((j : ℕ) → j ≢ k → state (getD (records l) j []) ≢ 0 → grant (getD (records l) j []) ≢ g)
+    → Tied (s ∷ tr) r
+    → Life (reverse (s .call ∷ history g tr))
+    → Inv m (s ∷ tr)
+event l m tr s t next k r g inv w n b now hears other new lives =
+    record {
+      tied = λ j. rw (w .records-are) (stored j (ℕ-discrete j k));
+      unborn = λ f h. let c = w .next-is in history-out f s tr (out f (λ e. omega arith)) ∙ inv .unborn f (omega arith);
+      past = λ f. rw (w .clock-is) (upto f (ℕ-discrete f g));
+      life = λ f. alive f (ℕ-discrete f g);
+    }
+  where
+    out : (f : ℕ) → f ≢ g → concerns f (s .call) (s .answer) ≡ false
+    out f ne = hears f ∙ ne-eqb f g ne
+
+    into : concerns g (s .call) (s .answer) ≡ true
+    into = hears g ∙ eq-eqb g g refl
+
+    stored : (j : ℕ) → Dec (j ≡ k) → Tied (s ∷ tr) (getD (set (records l) k r) j [])
+    stored j (yes e) = rw (e, getD-set-same (records l) k r [] (w .inside)) new
+    stored j (no ne) =
+        rw (getD-set-other (records l) k j r [] ne) (carry (getD (records l) j []) s tr (λ u. out _ (other j ne u)) (inv .tied j))
+
+    upto : (f : ℕ) → Dec (f ≡ g) → Upto t (history f (s ∷ tr))
+    upto f (yes e) =
+        let c = w .onward in
+        rw (e, history-in g s tr into) (omega arith, upto-later (clock l) t (history g tr) c (inv .past g))
+    upto f (no ne) = rw (history-out f s tr (out f ne)) (upto-later (clock l) t (history f tr) (w .onward) (inv .past f))
+
+    alive : (f : ℕ) → Dec (f ≡ g) → Life (reverse (history f (s ∷ tr)))
+    alive f (yes e) = rw (e, history-in g s tr into) lives
+    alive f (no ne) = rw (history-out f s tr (out f ne)) (inv .life f)
