@@ -8,3 +8,4 @@ pub mod Invariant
 pub mod Readings
 pub mod Numbers
 pub mod Demand3
+pub mod Examples
