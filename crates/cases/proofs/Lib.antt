@@ -1,2 +1,4 @@
 -- What is proved of the cases.
 pub mod Order
+pub mod Starts
+pub mod Single

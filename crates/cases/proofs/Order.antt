@@ -5,7 +5,7 @@ use mathlib.Core.Logic.{_↔_}
 use mathlib.Core.Bool.{Bool, true, false, not, _&&_, cond}
 use mathlib.Core.List.{List, [], _∷_}
 use lib.Dec.{eqb}
-use borrow.Author.Tests.{eqb-true, not-true}
+use borrow.Author.Tests.{eqb-true, eqb-false, not-true}
 use Rattle.octets.specs.Lists.{every}
 use Rattle.octets.proofs.Tests.{both}
 use Rattle.ledger.specs.Sound.{sound}
@@ -51,6 +51,34 @@ else-number why (c ∷ cs) e = go (gives why c) refl e (else-number why cs)
         → numberBy (cond (c .holds) (stopped (c .why)) (first cs)) ≡ numberIf why (cond b (c .holds) (conditionOf why cs))
     go true g e ih = here (c .holds) (all-pass cs e) (eqb-true (numberOf (c .why)) (numberOf why) g)
     go false g e ih = let (a, b) = both (passes c) _ e in rw (not-true (c .holds) a) (ih b)
+
+-- and every other check has passed
+none-holds : (why : Refusal) (cs : List Check) → every passes cs ≡ true → conditionOf why cs ≡ false
+none-holds why [] e = refl
+none-holds why (c ∷ cs) e =
+    let (a, b) = both (passes c) _ e in
+    by (gives why c) (not-true (c .holds) a) (none-holds why cs b)
+  where
+    by : (b : Bool) → c .holds ≡ false → conditionOf why cs ≡ false → cond b (c .holds) (conditionOf why cs) ≡ false
+    by true h k = h
+    by false h k = k
+
+pub else-passes : (why other : Refusal) (cs : List Check) → elseInOrder why cs ≡ true → eqb (numberOf why) (numberOf other) ≡ false
+    → conditionOf other cs ≡ false
+unfolding elseInOrder
+else-passes why other [] e n = refl
+else-passes why other (c ∷ cs) e n = go (gives why c) (gives other c) refl refl e (else-passes why other cs)
+  where
+    go : (a b : Bool) → gives why c ≡ a → gives other c ≡ b → cond a (every passes cs) (passes c && elseInOrder why cs) ≡ true
+        → (elseInOrder why cs ≡ true → eqb (numberOf why) (numberOf other) ≡ false → conditionOf other cs ≡ false)
+        → cond b (c .holds) (conditionOf other cs) ≡ false
+    go true true f g e ih =
+        absurd
+        (eqb-false (numberOf why) (numberOf other) n
+        (sym (eqb-true (numberOf (c .why)) (numberOf why) f) ∙ eqb-true (numberOf (c .why)) (numberOf other) g))
+    go true false f g e ih = none-holds other cs e
+    go false true f g e ih = not-true (c .holds) (both (passes c) _ e .0)
+    go false false f g e ih = ih (both (passes c) _ e .1) n
 
 -- a call's number is that of its checks
 by-checks : (n : ℕ) (cs : List Check) → ((n ≡ done) ↔ Passed cs) → ((why : Refusal) → (n ≡ numberOf why) ↔ Turn why cs) → n ≡ numberBy (first cs)
