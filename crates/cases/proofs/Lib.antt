@@ -2,3 +2,4 @@
 pub mod Order
 pub mod Starts
 pub mod Single
+pub mod Times

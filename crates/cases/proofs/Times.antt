@@ -1,0 +1,191 @@
+-- The last good second of a reference, a code and a token, and the one after it: P4 to P6. Assumes nothing.
+use Prim.Native.Nat.{ℕ, _+_, _<_, _^_}
+use native.Mathlib.Omega.{arith}
+use mathlib.Core.Path.{_≡_, refl, sym, ap, _∙_}
+use mathlib.Core.Logic.{inl, _↔_}
+use mathlib.Core.Bool.{Bool, true, false, not, _&&_}
+use mathlib.Core.List.{List, [], _∷_}
+use lib.Dec.{leb, eqb}
+use lib.ListN.{length}
+use borrow.Author.Tests.{not-false, eqb-false}
+use Rattle.octets.specs.Lists.{place}
+use Rattle.octets.proofs.Tests.{both}
+use Rattle.octets.proofs.Numbers.{Octets}
+use Rattle.forms.specs.Forms.{redirectFormed, challengeFormed}
+use Rattle.forms.proofs.Laws.{challenge-length, redirect-length}
+use Rattle.ledger.specs.Limits.{referenceLifetime, codeLifetime, tokenLifetime, lastNumber}
+use Rattle.ledger.specs.Fields.{records, rec, slots, nextNumber, expiry, withRecord, withNext, withClock}
+use Rattle.ledger.specs.Sound.{sound}
+use Rattle.ledger.specs.Checks.{isFree, isReference, isCode, isToken, expired}
+use Rattle.ledger.proofs.Records.{rec-length, slots-with, rec-same}
+use Rattle.upkeep.specs.View.{slotOf, pushedSlot, consentedSlot, redeemedSlot}
+use Rattle.upkeep.proofs.Heads.{slots-clock, rec-clock, slots-next, rec-next, next-left}
+use Rattle.upkeep.proofs.Says.{of-sound}
+use Rattle.upkeep.proofs.Searches.{First, first-in, reference-first, code-first, token-first, reference-says, code-says, token-says}
+use Rattle.upkeep.proofs.Written.{Wrote, pushed-wrote, consented-wrote, redeemed-wrote}
+use Rattle.desk.specs.Answers.{numberOf, done}
+use Rattle.desk.specs.Requests.{PushRequest, DecideRequest, TokenRequest, ResourceRequest}
+use Rattle.desk.specs.Push.{Outcome, pushRecord, pushAt}
+use Rattle.desk.specs.Decide.{Decision, referenceAt, consentRecord, consentAt, decideAt, decideChecks}
+use Rattle.desk.specs.Token.{codeAt, tokenRecord, tokenAt, tokenChecks}
+use Rattle.desk.specs.Resource.{tokenPlace, resourceChecks}
+use Rattle.desk.specs.declared.answer.Refusal.the-variants.{LedgerUnsound, RecordExpired}
+use Rattle.desk.proofs.Written.{decide-yes, timely-lt}
+use Rattle.conduct.proofs.Turns.{number-refused}
+use Rattle.conduct.proofs.Rows.{push-cases, decide-cases, token-cases}
+use Rattle.conduct.proofs.Facts.{PushFacts, push-facts, decide-facts, token-facts}
+use Rattle.conduct.proofs.Readings.{place-named}
+use Rattle.history.specs.Runs.{Call, push, decide, token, resource, TypedPush, TypedDecide, TypedToken, step, numberIn}
+use Rattle.history.proofs.Steps.{checksOf}
+use Rattle.cases.specs.Order.{elseInOrder}
+use Rattle.cases.specs.Cases.{DecideAfter, TokenAfter, ResourceAfter, answers}
+use Rattle.cases.proofs.Order.{conditionOf, numberIf, else-passes, else-answers}
+
+-- ---- what the first call leaves: a record that the second finds, good until a time
+
+record Stands (q : List ℕ → Bool) (until : ℕ) (m : List ℕ) : Type 0 where
+  pub k : ℕ
+  pub inside : k < slots m
+  pub passes : q (rec m k) ≡ true
+  pub expiry-is : expiry (rec m k) ≡ until
+
+module _ (l : List ℕ) (t : ℕ) (k : ℕ) (r : List ℕ) (q : List ℕ → Bool) (until : ℕ) (inside : k < slots l) (long : length r ≡ 256)
+    (good : q r ≡ true) (e : expiry r ≡ until) where
+  written-stands : Stands q until (withClock t (withRecord l k r))
+  written-stands =
+      let m = withRecord l k r in
+      let is : rec (withClock t m) k ≡ r = rec-clock t m k ∙ rec-same l k r long inside in
+      record {
+        k = k;
+        inside = rw (slots-clock t m, slots-with l k r long inside) inside;
+        passes = ap q is ∙ good;
+        expiry-is = ap expiry is ∙ e;
+      }
+
+  numbered-stands : (n : ℕ) → Stands q until (withClock t (withNext n (withRecord l k r)))
+  numbered-stands n =
+      let m = withRecord l k r in
+      let is : rec (withClock t (withNext n m)) k ≡ r = rec-clock t (withNext n m) k ∙ rec-next n m k ∙ rec-same l k r long inside in
+      record {
+        k = k;
+        inside = rw (slots-clock t (withNext n m), slots-next n m, slots-with l k r long inside) inside;
+        passes = ap q is ∙ good;
+        expiry-is = ap expiry is ∙ e;
+      }
+
+module _ (l : List ℕ) (t : ℕ) (table : List ℕ) (p : PushRequest) (o : Octets l) (y : TypedPush t table p) where
+  push-wrote : PushFacts l t table p → Wrote (rec l (place isFree (records l))) (pushRecord l t table p (rec l (place isFree (records l))))
+      (pushedSlot (p .scope) (nextNumber l) (t + referenceLifetime) (p .client) (p .challenge) (p .fresh) (p .redirect) (slotOf (rec l (place isFree (records l)))))
+  unfolding pushRecord
+  push-wrote f =
+      let k = place isFree (records l) in
+      let s = of-sound l (f .ledger-sound) .least in
+      let n = next-left l o (omega arith) (eqb-false (nextNumber l) lastNumber (f .numbers-left)) in
+      let b = timely-lt l t (f .in-time) in
+      let (u, v) = both (redirectFormed (p .redirect)) (challengeFormed (p .challenge)) (f .formed) in
+      pushed-wrote (p .scope) (nextNumber l) (t + referenceLifetime) (p .client) (p .challenge) (p .fresh) (p .redirect) (rec l k)
+      (y .scope) (omega arith) (omega arith) (y .client .long) (challenge-length (p .challenge) v) (y .fresh .long)
+      (redirect-length (p .redirect) u .1) (rec-length l k (first-in isFree l (f .room) .inside))
+
+  push-stands : numberIn (step l (push t table p) .answer) ≡ done
+      → Stands (isReference (p .fresh) (p .client)) (t + referenceLifetime) (step l (push t table p) .after)
+  unfolding step pushAt slotOf
+  push-stands =
+      push-cases l t table p (λ (o : Outcome). o .answer .number ≡ done → Stands (isReference (p .fresh) (p .client)) (t + referenceLifetime) (o .ledger))
+      (λ why u e. absurd (number-refused why e))
+      (λ ok e.
+      let f = push-facts l t table p ok in
+      let k = place isFree (records l) in
+      let r = pushRecord l t table p (rec l k) in
+      let a = push-wrote f in
+      numbered-stands l t k r (isReference (p .fresh) (p .client)) (t + referenceLifetime) (first-in isFree l (f .room) .inside) (a .long)
+      (reference-says (p .fresh) (p .client) r .1 (a .state-is, (a .value-is, a .client-is))) (a .expiry-is) (nextNumber l + 1))
+
+module _ (l : List ℕ) (t : ℕ) (d : DecideRequest) (out : List ℕ) (y : TypedDecide t d out) (says : d .yes ≡ true) where
+  consent-stands : numberIn (step l (decide t d out) .answer) ≡ done
+      → Stands (isCode (d .fresh) (d .client)) (t + codeLifetime) (step l (decide t d out) .after)
+  unfolding step consentAt consentRecord slotOf
+  consent-stands =
+      decide-cases l t d out
+      (λ (o : Decision). o .answer .answer .number ≡ done → Stands (isCode (d .fresh) (d .client)) (t + codeLifetime) (o .ledger))
+      (λ why u e. absurd (number-refused why e))
+      (λ ok e.
+      let f = decide-facts l t d out ok in
+      let k = referenceAt l d in
+      let r = consentRecord t (d .holder) (d .fresh) (rec l k) in
+      let found = first-in (isReference (d .reference) (d .client)) l (f .there) in
+      let was = reference-says (d .reference) (d .client) (rec l k) .0 (found .passes) in
+      let b = timely-lt l t (f .in-time) in
+      let a =
+          consented-wrote (t + codeLifetime) (d .holder) (d .fresh) (rec l k) (omega arith) (y .holder) (y .fresh .long)
+          (rec-length l k (found .inside)) in
+      rw (decide-yes l t d out k says refl)
+      (written-stands l t k r (isCode (d .fresh) (d .client)) (t + codeLifetime) (found .inside) (a .long)
+      (code-says (d .fresh) (d .client) r .1 (inl (a .state-is), (a .value-is, a .client-is ∙ was .1 .1))) (a .expiry-is)))
+
+module _ (l : List ℕ) (t : ℕ) (table : List ℕ) (q : TokenRequest) (y : TypedToken t table q) where
+  token-stands : numberIn (step l (token t table q) .answer) ≡ done
+      → Stands (isToken (q .fresh)) (t + tokenLifetime) (step l (token t table q) .after)
+  unfolding step tokenAt tokenRecord slotOf
+  token-stands =
+      token-cases l t table q (λ (o : Outcome). o .answer .number ≡ done → Stands (isToken (q .fresh)) (t + tokenLifetime) (o .ledger))
+      (λ why u e. absurd (number-refused why e))
+      (λ ok e.
+      let f = token-facts l t table q ok in
+      let k = codeAt l q in
+      let r = tokenRecord t q (rec l k) in
+      let found = first-in (isCode (q .code) (q .client)) l (f .there) in
+      let b = timely-lt l t (f .in-time) in
+      let a =
+          redeemed-wrote (t + tokenLifetime) (q .fresh) (q .presented) (rec l k) (omega arith) (y .fresh .long) (y .presented .long)
+          (rec-length l k (found .inside)) in
+      written-stands l t k r (isToken (q .fresh)) (t + tokenLifetime) (found .inside) (a .long) (token-says (q .fresh) r .1 (a .state-is, a .token-is)) (a .expiry-is))
+
+-- ---- the second call finds it, and goes by the time
+
+-- the place that a search finds is the record's, where no other passes before it
+found-expired : (q : List ℕ → Bool) (until t : ℕ) (m : List ℕ) (s : Stands q until m) → First q m (s .k) → expired t (rec m (place q (records m))) ≡ leb until t
+found-expired q until t m s f =
+    ap (λ (k : ℕ). expired t (rec m k)) (place-named q m (s .k) f) ∙ ap (λ (x : ℕ). leb x t) (s .expiry-is)
+
+pub decide-time : (a t : ℕ) (l : List ℕ) (c : Call) (b : Bool) → leb (a + referenceLifetime) t ≡ b → DecideAfter a t l c → answers (l, c) ≡ numberIf RecordExpired b
+unfolding decideChecks
+decide-time a t l c b h f =
+    let d = f .request in
+    let call = decide t d (f .output) in
+    let is-sound = not-false (sound l) (else-passes RecordExpired LedgerUnsound (checksOf l call) (f .in-order) refl) in
+    let s : Stands (isReference (d .reference) (d .client)) (a + referenceLifetime) l
+        = rw (f .same-reference, f .same-client, f .leaves) (push-stands (f .before) a (f .table) (f .asked) (f .bytes) (f .typed) (f .accepted)) in
+    ap (λ (d : Call). answers (l, d)) (f .is)
+    ∙ else-answers l call RecordExpired b (f .in-order)
+    (found-expired (isReference (d .reference) (d .client)) (a + referenceLifetime) t l s
+    (reference-first l is-sound (d .reference) (d .client) (s .k) (s .inside) (s .passes))
+    ∙ h)
+
+pub token-time : (a t : ℕ) (l : List ℕ) (c : Call) (b : Bool) → leb (a + codeLifetime) t ≡ b → TokenAfter a t l c → answers (l, c) ≡ numberIf RecordExpired b
+unfolding tokenChecks
+token-time a t l c b h f =
+    let q = f .request in
+    let call = token t (f .table) q in
+    let is-sound = not-false (sound l) (else-passes RecordExpired LedgerUnsound (checksOf l call) (f .in-order) refl) in
+    let s : Stands (isCode (q .code) (q .client)) (a + codeLifetime) l
+        = rw (f .same-code, f .same-client, f .leaves) (consent-stands (f .before) a (f .allowed) (f .output) (f .typed) (f .yes) (f .accepted)) in
+    ap (λ (d : Call). answers (l, d)) (f .is)
+    ∙ else-answers l call RecordExpired b (f .in-order)
+    (found-expired (isCode (q .code) (q .client)) (a + codeLifetime) t l s
+    (code-first l is-sound (q .code) (q .client) (s .k) (s .inside) (s .passes))
+    ∙ h)
+
+pub resource-time : (a t : ℕ) (l : List ℕ) (c : Call) (b : Bool) → leb (a + tokenLifetime) t ≡ b → ResourceAfter a t l c → answers (l, c) ≡ numberIf RecordExpired b
+unfolding resourceChecks
+resource-time a t l c b h f =
+    let q = f .request in
+    let call = resource t q in
+    let is-sound = not-false (sound l) (else-passes RecordExpired LedgerUnsound (checksOf l call) (f .in-order) refl) in
+    let s : Stands (isToken (q .token)) (a + tokenLifetime) l
+        = rw (f .same-token, f .leaves) (token-stands (f .before) a (f .table) (f .redeemed) (f .typed) (f .accepted)) in
+    ap (λ (d : Call). answers (l, d)) (f .is)
+    ∙ else-answers l call RecordExpired b (f .in-order)
+    (found-expired (isToken (q .token)) (a + tokenLifetime) t l s
+    (token-first l is-sound (q .token) (s .k) (s .inside) (s .passes))
+    ∙ h)
