@@ -3,3 +3,6 @@ pub mod Order
 pub mod Starts
 pub mod Single
 pub mod Times
+pub mod Holding
+pub mod Inputs
+pub mod Meeting
