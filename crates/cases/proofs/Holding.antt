@@ -25,7 +25,7 @@ sweep-time t b h x f =
 
 -- one row after another
 infixr 10 _and_
-abbrev _and_ : {A B : Type 0} → A → B → A × B
+abbrev pub _and_ : {A B : Type 0} → A → B → A × B
 a and b = (a, b)
 
 pub every-row-holds : Each Holds rows

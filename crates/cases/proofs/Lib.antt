@@ -6,3 +6,4 @@ pub mod Times
 pub mod Holding
 pub mod Inputs
 pub mod Meeting
+pub mod Table
