@@ -7,3 +7,4 @@ pub mod Holding
 pub mod Inputs
 pub mod Meeting
 pub mod Table
+pub mod Outcomes

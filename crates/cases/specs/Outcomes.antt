@@ -1,1 +1,50 @@
--- stub
+-- "The statement settles the answer and each lent byte afterwards for all inputs, refused ones too; prove that any two outcomes allowed by it are equal".
+-- An outcome is all that a caller sees of a call: what is returned, and the bytes of each buffer that was lent to be written.
+-- A contract says of an outcome whether it is allowed. docs/OUTCOMES.md lists every public function under the form that its contract has.
+use Prim.Native.Nat.{ℕ}
+use mathlib.Core.Path.{_≡_}
+use mathlib.Core.List.{List}
+use Rattle.desk.specs.Requests.{PushRequest, DecideRequest, TokenRequest, ResourceRequest}
+use Rattle.desk.specs.Start.{leftAt, start}
+use Rattle.desk.specs.Push.{left, push}
+use Rattle.desk.specs.Decide.{leftBoth, decide}
+use Rattle.desk.specs.Token.{token}
+use Rattle.desk.specs.Resource.{resource}
+use Rattle.desk.specs.Sweep.{leftSwept, sweep}
+use Rattle.desk.specs.declared.answer.Answer.{Answer}
+use Rattle.desk.specs.declared.answer.Decided.{Decided}
+use Rattle.desk.specs.declared.answer.Swept.{Swept}
+
+-- any two outcomes that are allowed are equal
+abbrev pub OneOutcome : {A : Type 0} → (A → Type 0) → Type 0
+OneOutcome {A} Allows = (x y : A) → Allows x → Allows y → x ≡ y
+
+-- ---- the forms of a contract
+
+-- "value", "slice" and "bytes": one equation, of what is returned, of the bytes of a slice returned, or of the bytes lent
+abbrev pub Is : {A : Type 0} → A → A → Type 0
+Is v x = x ≡ v
+
+-- "both": an equation of what is returned, and one of the bytes lent
+abbrev pub Are : {A B : Type 0} → A → B → A × B → Type 0
+Are v w x = (x .0 ≡ v) × (x .1 ≡ w)
+
+-- "call": one equation of what is returned and the bytes lent, put together by k
+abbrev pub Made : {A B : Type 0} → (A → B) → B → A → Type 0
+Made k v x = k x ≡ v
+
+-- ---- one outcome, for each form and for each call
+
+pub record OneEach : Type 1 where
+  pub of-is : (A : Type 0) (v : A) → OneOutcome (Is v)
+  pub of-are : (A B : Type 0) (v : A) (w : B) → OneOutcome (Are v w)
+  -- where k loses nothing
+  pub of-made : (A B : Type 0) (k : A → B) (back : B → A) → ((x : A) → back (k x) ≡ x) → (v : B) → OneOutcome (Made k v)
+  -- the contracts of the six calls, word for word
+  pub start-one : (l : List ℕ) → OneOutcome (λ (x : ℕ × List ℕ). leftAt (x .0) (x .1) ≡ start l)
+  pub push-one : (l : List ℕ) (t : ℕ) (table : List ℕ) (p : PushRequest) → OneOutcome (λ (x : Answer × List ℕ). left (x .0) (x .1) ≡ push l t table p)
+  pub decide-one : (l : List ℕ) (t : ℕ) (d : DecideRequest) (out : List ℕ)
+      → OneOutcome (λ (x : Decided × (List ℕ × List ℕ)). leftBoth (x .0) (x .1 .0) (x .1 .1) ≡ decide l t d out)
+  pub token-one : (l : List ℕ) (t : ℕ) (table : List ℕ) (q : TokenRequest) → OneOutcome (λ (x : Answer × List ℕ). left (x .0) (x .1) ≡ token l t table q)
+  pub resource-one : (l : List ℕ) (t : ℕ) (q : ResourceRequest) → OneOutcome (λ (x : Answer × List ℕ). left (x .0) (x .1) ≡ resource l t q)
+  pub sweep-one : (l : List ℕ) (t : ℕ) → OneOutcome (λ (x : Swept × List ℕ). leftSwept (x .0) (x .1) ≡ sweep l t)
