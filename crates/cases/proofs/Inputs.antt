@@ -1,16 +1,17 @@
 -- The inputs that the cases are met with: one client, one record, and a grant on it. Assumes nothing.
-use Prim.Native.Nat.{ℕ, zero, suc, _<_}
-use mathlib.Core.Path.{_≡_}
+use Prim.Native.Nat.{ℕ, zero, suc, _<_, _^_}
+use mathlib.Core.Path.{_≡_, refl}
 use mathlib.Core.Bool.{Bool, true, _&&_}
 use mathlib.Core.List.{List, [], _∷_, _++_}
 use native.Mathlib.Omega.{arith}
-use lib.Dec.{ltb}
-use lib.ListN.{getD, replicate}
+use lib.Dec.{ltb, lit≤}
+use lib.ListN.{length, getD, replicate}
 use borrow.Author.Tests.{ltb-true}
 use Rattle.octets.specs.Lists.{every}
 use Rattle.octets.proofs.Tests.{both}
 use Rattle.desk.specs.Requests.{PushRequest, DecideRequest, TokenRequest, ResourceRequest}
-use Rattle.history.specs.Runs.{Bytes}
+use Rattle.history.specs.Runs.{Bytes, Array, TypedPush, TypedDecide, TypedToken, TypedResource}
+use Rattle.cases.specs.Table.{shortest}
 
 -- every byte of a list that can be computed
 abbrev pub isByte : ℕ → Bool
@@ -91,3 +92,55 @@ redeeming verifier =
 
 abbrev pub reading : ResourceRequest
 reading = record { token = replicate 32 8; presented = replicate 32 7; scope = 4; holder = 9 }
+
+-- ---- what the types say of these requests
+
+pub array : (n : ℕ) (xs : List ℕ) → length xs ≡ n → every isByte xs ≡ true → Array n xs
+array n xs l b = record { long = l; bytes = bytes-of xs b }
+
+pub typed-push : (t : ℕ) → t < 2 ^ 64 → TypedPush t table (asking 4 text43 shortest)
+typed-push t h =
+    record {
+      now = h;
+      clients = bytes-of table refl;
+      client = array 16 program refl refl;
+      key = array 32 programKey refl refl;
+      scope = lit≤ tt;
+      challenge = bytes-of text43 refl;
+      redirect = bytes-of shortest refl;
+      fresh = array 32 (replicate 32 5) refl refl;
+    }
+
+pub typed-decide : (t : ℕ) → t < 2 ^ 64 → TypedDecide t (allowing code) room
+typed-decide t h =
+    record {
+      now = h;
+      reference = array 32 (replicate 32 5) refl refl;
+      client = array 16 program refl refl;
+      holder = lit≤ tt;
+      fresh = array 32 code refl refl;
+      output = bytes-of room refl;
+    }
+
+pub typed-token : (t : ℕ) → t < 2 ^ 64 → TypedToken t table (redeeming (secret 43))
+typed-token t h =
+    record {
+      now = h;
+      clients = bytes-of table refl;
+      client = array 16 program refl refl;
+      key = array 32 programKey refl refl;
+      presented = array 32 (replicate 32 7) refl refl;
+      code = array 32 code refl refl;
+      verifier = bytes-of (secret 43) refl;
+      fresh = array 32 (replicate 32 8) refl refl;
+    }
+
+pub typed-resource : (t : ℕ) → t < 2 ^ 64 → TypedResource t reading
+typed-resource t h =
+    record {
+      now = h;
+      token = array 32 (replicate 32 8) refl refl;
+      presented = array 32 (replicate 32 7) refl refl;
+      scope = lit≤ tt;
+      holder = lit≤ tt;
+    }

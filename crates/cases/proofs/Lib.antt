@@ -8,3 +8,4 @@ pub mod Inputs
 pub mod Meeting
 pub mod Table
 pub mod Outcomes
+pub mod Desks

@@ -42,50 +42,8 @@ use Rattle.history.proofs.Steps.{checksOf}
 use Rattle.cases.specs.Cases.{startLength, startByte, startOther, decideTime, tokenTime, resourceTime, pushScope, sweepTime, tokenVerifier, formVerifier, pushRedirect, decideFresh, messageLength, Input, InOrder, DecideAfter, TokenAfter, ResourceAfter, PushScope, SweepFresh, TokenVerifier, PushRedirect, DecideFresh}
 use Rattle.cases.specs.Table.{shortest, tooShort, notSecure, rows, Row, P, Met, Each}
 use Rattle.cases.proofs.Holding.{_and_}
-use Rattle.cases.proofs.Inputs.{isByte, bytes-of, room, program, programKey, table, secret, text43, text42, text129, asking, allowing, code, redeeming, reading}
+use Rattle.cases.proofs.Inputs.{room, program, programKey, table, secret, text43, text42, text129, asking, allowing, code, redeeming, reading, typed-push, typed-decide, typed-token}
 use Rattle.upkeep.proofs.Ranges.{octets-started}
-
--- ---- what the types say of these inputs
-
-array : (n : ℕ) (xs : List ℕ) → length xs ≡ n → every isByte xs ≡ true → Array n xs
-array n xs l b = record { long = l; bytes = bytes-of xs b }
-
-typed-push : (t : ℕ) → t < 2 ^ 64 → TypedPush t table (asking 4 text43 shortest)
-typed-push t h =
-    record {
-      now = h;
-      clients = bytes-of table refl;
-      client = array 16 program refl refl;
-      key = array 32 programKey refl refl;
-      scope = lit≤ tt;
-      challenge = bytes-of text43 refl;
-      redirect = bytes-of shortest refl;
-      fresh = array 32 (replicate 32 5) refl refl;
-    }
-
-typed-decide : (t : ℕ) → t < 2 ^ 64 → TypedDecide t (allowing code) room
-typed-decide t h =
-    record {
-      now = h;
-      reference = array 32 (replicate 32 5) refl refl;
-      client = array 16 program refl refl;
-      holder = lit≤ tt;
-      fresh = array 32 code refl refl;
-      output = bytes-of room refl;
-    }
-
-typed-token : (t : ℕ) → t < 2 ^ 64 → TypedToken t table (redeeming (secret 43))
-typed-token t h =
-    record {
-      now = h;
-      clients = bytes-of table refl;
-      client = array 16 program refl refl;
-      key = array 32 programKey refl refl;
-      presented = array 32 (replicate 32 7) refl refl;
-      code = array 32 code refl refl;
-      verifier = bytes-of (secret 43) refl;
-      fresh = array 32 (replicate 32 8) refl refl;
-    }
 
 -- ---- the ledgers of a grant on one record: a push, a consent of it and a token of that
 

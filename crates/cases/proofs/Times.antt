@@ -74,7 +74,7 @@ module _ (l : List ℕ) (t : ℕ) (k : ℕ) (r : List ℕ) (q : List ℕ → Boo
       }
 
 module _ (l : List ℕ) (t : ℕ) (table : List ℕ) (p : PushRequest) (o : Octets l) (y : TypedPush t table p) where
-  push-wrote : PushFacts l t table p → Wrote (rec l (place isFree (records l))) (pushRecord l t table p (rec l (place isFree (records l))))
+  pub push-wrote : PushFacts l t table p → Wrote (rec l (place isFree (records l))) (pushRecord l t table p (rec l (place isFree (records l))))
       (pushedSlot (p .scope) (nextNumber l) (t + referenceLifetime) (p .client) (p .challenge) (p .fresh) (p .redirect) (slotOf (rec l (place isFree (records l)))))
   unfolding pushRecord
   push-wrote f =
