@@ -41,7 +41,15 @@ use Rattle.desk.specs.Token.{codeAt, tokenChecks, tokenRecord, tokenAt, token a
 use Rattle.desk.specs.Resource.{resourceChecks, look, resource as doResource}
 use Rattle.desk.specs.Sweep.{sweepChecks, sweep as doSweep}
 use Rattle.ledger.specs.Sweep.{sweptRecord, sweptTo, swept, due, freedOf, freed}
-use Rattle.history.specs.Runs.{Call, push, decide, token, resource, sweep, Bytes, Array, TypedPush, TypedDecide, TypedToken, step, numberIn, started, last, Typed, AllTyped, Said}
+use Rattle.history.specs.Runs.{Call, push, decide, token, resource, sweep, Bytes, Array, TypedPush, TypedDecide, TypedToken, step, numberIn, started, last, Typed, AllTyped, Said, swept as says, grantOf}
+use Rattle.ledger.specs.Fields.{nextNumber}
+use Rattle.ledger.specs.declared.sweep.Freed.{Freed}
+use Rattle.desk.specs.Push.{Outcome}
+use Rattle.desk.specs.Sweep.{Sweeping}
+use Rattle.conduct.proofs.Turns.{number-refused}
+use Rattle.conduct.proofs.Rows.{push-cases, sweep-cases}
+use Rattle.conduct.proofs.Facts.{push-facts}
+use Rattle.cases.proofs.Times.{push-wrote}
 use Rattle.history.proofs.Steps.{checksOf}
 use Rattle.upkeep.proofs.Ranges.{octets-started}
 use Rattle.cases.specs.Table.{shortest}
@@ -73,10 +81,31 @@ ledgerOf k = last (started 2) (runOf k)
 abbrev sweptFirst : List Call
 sweptFirst = sweep 5 ∷ []
 
+-- another push before the one that is looked at
+abbrev other : PushRequest
+other =
+    record {
+      client = program;
+      key = programKey;
+      scope = 4;
+      challenge = text43;
+      redirect = shortest;
+      fresh = replicate 32 4;
+    }
+
+abbrev otherFirst : List Call
+otherFirst = push 1000 table other ∷ []
+
 pub record Computed : Type 0 where
   pub accepted : (k : Kind) → numberIn (step (ledgerOf k) (callAt 1030 k) .answer) ≡ done
   pub changes : (k : Kind) → same (step (ledgerOf k) (callAt 1030 k) .after) (ledgerOf k) ≡ false
   pub early : (k : Kind) → numberIn (step (last (started 2) sweptFirst) (callAt 4 k) .answer) ≡ 2
+  -- a redirect goes out; a sweep after the push frees it, and after a sweep nothing; a push is the first or the second
+  pub hands-out : same (outputIn (step (ledgerOf decides) (callAt 1030 decides) .answer)) room ≡ false
+  pub frees-none : countsIn (step (last (started 2) sweptFirst) (sweep 2000) .answer) .pushed ≡ 0
+  pub frees-one : countsIn (step (ledgerOf sweeps) (sweep 2000) .answer) .pushed ≡ 1
+  pub first-number : grantOf (step (last (started 2) sweptFirst) (callAt 1030 pushes) .answer) ≡ 1
+  pub second-number : grantOf (step (last (started 2) otherFirst) (callAt 1030 pushes) .answer) ≡ 2
 
 computed : Computed
 unfolding tabulate numFrom num digits laid put blank zeros same visible urlSafe unreserved redirectFormed challengeFormed verifierFormed redirectPrefix client entries hasId hasKey placeOf isKnown lengthRight idGiven idsGiven keyGiven keysGiven sameId idsDistinct restZero restsZero tableSound untimely taken isFree isWith isReference isCode isToken rec slots records sized numbersSound bytesSound recordSound sameGrant holds meets ownApart headSound sound pushed consented redeemed free first scopeFits fresh pushChecks pushRecord pushAt doPush decideChecks consentRecord consentAt declineAt decideAt doDecide tokenChecks tokenRecord tokenAt doToken resourceChecks look doResource step K added compress hashValue joined sha256 pad blocks T1 round rounds next words schedule Σ0 Σ1 σ0 σ1 letter characters base64url matches sweptRecord sweptTo swept due freedOf freed sweepChecks doSweep
@@ -85,6 +114,11 @@ computed =
       accepted = λ (k : Kind). elim k [ pushes ↦ refl | decides ↦ refl | redeems ↦ refl | reads ↦ refl | sweeps ↦ refl ];
       changes = λ (k : Kind). elim k [ pushes ↦ refl | decides ↦ refl | redeems ↦ refl | reads ↦ refl | sweeps ↦ refl ];
       early = λ (k : Kind). elim k [ pushes ↦ refl | decides ↦ refl | redeems ↦ refl | reads ↦ refl | sweeps ↦ refl ];
+      hands-out = refl;
+      frees-none = refl;
+      frees-one = refl;
+      first-number = refl;
+      second-number = refl;
     }
 
 -- ---- catching
@@ -178,3 +212,88 @@ idler k desk r =
 
 feigner : (k : Kind) (desk : Desk) → Feigns k desk → Caught k desk
 feigner k desk f = ⊎-elim (λ r. refuser k desk r) (λ s. ⊎-elim (λ c. constant (f .a) k desk c) (λ i. idler k desk i) s) (f .then)
+
+withholder : (desk : Desk) → Withholds desk → Caught decides desk
+withholder desk r =
+    catch-accepted decides desk
+    (λ o a e.
+    differ-is (outputIn (step (ledgerOf decides) (callAt 1030 decides) .answer)) room (computed .hands-out)
+    (sym (shows (λ (s : Seen). outputIn (s .answer)) desk (runOf decides) (callAt 1030 decides) o a e) ∙ r (runOf decides) (ledgerOf decides) 1030 (allowing code) room (lit≤ tt)))
+
+-- a number that does not go by the ledger is wrong on one of two ledgers
+module _ (k : Kind) (desk : Desk) (f : Seen → ℕ) (first second : List Call) (c : Call) (x y : ℕ) (differ : x ≢ y)
+    (same-number : f (desk first (last (started 2) first) c) ≡ f (desk second (last (started 2) second) c))
+    (at-first : DiffersOn desk first c → Caught k desk)
+    (at-second : DiffersOn desk second c → Caught k desk)
+    (is-first : f (record { answer = step (last (started 2) first) c .answer; after = step (last (started 2) first) c .after }) ≡ x)
+    (is-second : f (record { answer = step (last (started 2) second) c .answer; after = step (last (started 2) second) c .after }) ≡ y) where
+  invented : Caught k desk
+  invented = go (eqb (f (desk first (last (started 2) first) c)) x) refl
+    where
+      go : (b : Bool) → eqb (f (desk first (last (started 2) first) c)) x ≡ b → Caught k desk
+      go true z =
+          at-second
+          (λ o a e. differ (sym (eqb-true (f (desk first (last (started 2) first) c)) x z) ∙ same-number ∙ shows f desk second c o a e ∙ is-second))
+      go false z = at-first (λ o a e. eqb-false (f (desk first (last (started 2) first) c)) x z (shows f desk first c o a e ∙ is-first))
+
+typed-other : TypedPush 1000 table other
+typed-other =
+    let y = typed-push 1000 (lit≤ tt) in
+    record {
+      now = y .now;
+      clients = y .clients;
+      client = y .client;
+      key = y .key;
+      scope = y .scope;
+      challenge = y .challenge;
+      redirect = y .redirect;
+      fresh = array 32 (replicate 32 4) refl refl;
+    }
+
+counts : (desk : Desk) → InventsCounts desk → Caught sweeps desk
+counts desk r =
+    invented sweeps desk (λ (s : Seen). countsIn (s .answer) .pushed) sweptFirst (runOf sweeps) (sweep 2000) 0 1 (λ e. omega arith)
+    (ap (λ (f : Freed). f .pushed) (r sweptFirst (runOf sweeps) (last (started 2) sweptFirst) (ledgerOf sweeps) 2000 (lit≤ tt) (lit≤ tt)))
+    (catch sweeps desk sweptFirst (sweep 2000) (lit≤ tt, (lit≤ tt, tt)) (lit≤ tt) refl)
+    (catch sweeps desk (runOf sweeps) (sweep 2000) (typed-push 1000 (lit≤ tt), (lit≤ tt, tt)) (lit≤ tt) refl)
+    (computed .frees-none) (computed .frees-one)
+
+numbers : (desk : Desk) → InventsNumbers desk → Caught pushes desk
+numbers desk r =
+    invented pushes desk (λ (s : Seen). grantOf (s .answer)) sweptFirst otherFirst (callAt 1030 pushes) 1 2 (λ e. omega arith)
+    (r sweptFirst otherFirst (last (started 2) sweptFirst) (last (started 2) otherFirst) 1030 table (asking 4 text43 shortest) (lit≤ tt) (lit≤ tt))
+    (catch pushes desk sweptFirst (callAt 1030 pushes) (lit≤ tt, (typed-push 1030 (lit≤ tt), tt)) (lit≤ tt) refl)
+    (catch pushes desk otherFirst (callAt 1030 pushes) (typed-other, (typed-push 1030 (lit≤ tt), tt)) (lit≤ tt) refl)
+    (computed .first-number) (computed .second-number)
+
+-- ---- on every input
+
+counts-only : (l : List ℕ) (t : ℕ) (o : Seen) → Allowed l (sweep t) o → numberIn (o .answer) ≡ done → countsIn (o .answer) ≡ freed t l
+unfolding step
+counts-only l t o a e =
+    ap (λ (s : Seen). countsIn (s .answer)) a
+    ∙ sweep-cases l t (λ (w : Sweeping). w .answer .number ≡ done → countsIn (says (w .answer)) ≡ freed t l) (λ why u n. absurd (number-refused why n)) (λ ok n. refl)
+    (sym (ap (λ (s : Seen). numberIn (s .answer)) a) ∙ e)
+
+number-only : (l : List ℕ) (t : ℕ) (table : List ℕ) (p : PushRequest) (o : Seen) → Bytes l → TypedPush t table p → Allowed l (push t table p) o
+    → numberIn (o .answer) ≡ done → grantOf (o .answer) ≡ nextNumber l
+unfolding step pushAt
+number-only l t table p o b y a e =
+    ap (λ (s : Seen). grantOf (s .answer)) a
+    ∙ push-cases l t table p (λ (w : Outcome). w .answer .number ≡ done → w .answer .grant ≡ nextNumber l) (λ why u n. absurd (number-refused why n))
+    (λ ok n. push-wrote l t table p b y (push-facts l t table p ok) .grant-is)
+    (sym (ap (λ (s : Seen). numberIn (s .answer)) a) ∙ e)
+
+pub shut-out : ShutOut
+shut-out =
+    record {
+      refuser = refuser;
+      constant = constant;
+      idler = idler;
+      withholder = withholder;
+      feigner = feigner;
+      counts = counts;
+      numbers = numbers;
+      counts-only = counts-only;
+      number-only = number-only;
+    }
