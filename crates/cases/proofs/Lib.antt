@@ -8,4 +8,5 @@ pub mod Inputs
 pub mod Meeting
 pub mod Table
 pub mod Outcomes
+pub mod Tries
 pub mod Desks

@@ -1,12 +1,12 @@
 -- Every row of the table is met by an input. Assumes nothing.
-use Prim.Native.Nat.{ℕ, _<_, _-_, _^_}
+use Prim.Native.Nat.{ℕ, _-_, _^_}
 use native.Mathlib.Omega.{arith}
 use mathlib.Core.Path.{_≡_, refl}
-use mathlib.Core.Bool.{Bool, true, false}
-use mathlib.Core.List.{List, [], _∷_, _++_}
+use mathlib.Core.Bool.{true}
+use mathlib.Core.List.{List}
 use lib.Dec.{lit≤}
 use lib.ListN.{length, replicate}
-use Rattle.octets.specs.Lists.{every, tabulate}
+use Rattle.octets.specs.Lists.{tabulate}
 use Rattle.octets.specs.Numbers.{numFrom, num, digits}
 use Rattle.octets.specs.Parts.{laid, put, blank, zeros, same}
 use Rattle.forms.specs.Forms.{visible, urlSafe, unreserved, redirectFormed, challengeFormed, verifierFormed}
@@ -27,22 +27,21 @@ use Rattle.ledger.specs.Fields.{rec, slots, records}
 use Rattle.ledger.specs.Sound.{sized, numbersSound, bytesSound, recordSound, sameGrant, holds, meets, ownApart, headSound, sound}
 use Rattle.ledger.specs.Write.{pushed, consented, redeemed, free}
 use Rattle.desk.specs.Checks.{first, scopeFits}
-use Rattle.desk.specs.Requests.{PushRequest, DecideRequest, TokenRequest, ResourceRequest}
 use Rattle.desk.specs.Start.{fresh}
 use Rattle.desk.specs.Push.{asker, pushChecks, pushRecord, pushAt, push as doPush}
 use Rattle.desk.specs.declared.answer.Refusal.the-variants.{IllFormed, ScopeRefused, FreshTaken, RecordExpired}
 use Rattle.desk.specs.Answers.{done}
 use Rattle.octets.proofs.Parts.{length-blank}
-use Rattle.desk.specs.Decide.{referenceAt, decideChecks, consentRecord, consentAt, declineAt, decideAt, decide as doDecide}
-use Rattle.desk.specs.Token.{codeAt, tokenChecks, tokenRecord, tokenAt, token as doToken}
+use Rattle.desk.specs.Decide.{decideChecks, consentRecord, consentAt, declineAt, decideAt, decide as doDecide}
+use Rattle.desk.specs.Token.{tokenChecks, tokenRecord, tokenAt, token as doToken}
 use Rattle.desk.specs.Resource.{resourceChecks, look, resource as doResource}
-use Rattle.history.specs.Runs.{Call, push, decide, token, resource, sweep, Bytes, Array, TypedPush, TypedDecide, TypedToken, step, numberIn, started}
+use Rattle.history.specs.Runs.{Call, push, decide, token, resource, sweep, Bytes, step, numberIn, started}
 use Rattle.cases.specs.Order.{elseInOrder}
 use Rattle.history.proofs.Steps.{checksOf}
-use Rattle.cases.specs.Cases.{startLength, startByte, startOther, decideTime, tokenTime, resourceTime, pushScope, sweepTime, tokenVerifier, formVerifier, pushRedirect, decideFresh, messageLength, Input, InOrder, DecideAfter, TokenAfter, ResourceAfter, PushScope, SweepFresh, TokenVerifier, PushRedirect, DecideFresh}
-use Rattle.cases.specs.Table.{shortest, tooShort, notSecure, rows, Row, P, Met, Each}
+use Rattle.cases.specs.Cases.{Input, InOrder, DecideAfter, TokenAfter, ResourceAfter, PushScope, SweepFresh, TokenVerifier, PushRedirect, DecideFresh}
+use Rattle.cases.specs.Table.{shortest, tooShort, notSecure, rows, Row, Met, Each}
 use Rattle.cases.proofs.Holding.{_and_}
-use Rattle.cases.proofs.Inputs.{room, program, programKey, table, secret, text43, text42, text129, asking, allowing, code, redeeming, reading, typed-push, typed-decide, typed-token}
+use Rattle.cases.proofs.Inputs.{room, table, secret, text43, text42, text129, asking, allowing, code, redeeming, reading, typed-push, typed-decide, typed-token}
 use Rattle.upkeep.proofs.Ranges.{octets-started}
 
 -- ---- the ledgers of a grant on one record: a push, a consent of it and a token of that

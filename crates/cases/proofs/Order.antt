@@ -2,19 +2,14 @@
 use Prim.Native.Nat.{ℕ}
 use mathlib.Core.Path.{_≡_, refl, sym, ap, _∙_}
 use mathlib.Core.Logic.{_↔_}
-use mathlib.Core.Bool.{Bool, true, false, not, _&&_, cond}
+use mathlib.Core.Bool.{Bool, true, false, _&&_, cond}
 use mathlib.Core.List.{List, [], _∷_}
 use lib.Dec.{eqb}
 use borrow.Author.Tests.{eqb-true, eqb-false, not-true}
 use Rattle.octets.specs.Lists.{every}
 use Rattle.octets.proofs.Tests.{both}
-use Rattle.ledger.specs.Sound.{sound}
 use Rattle.desk.specs.Answers.{numberOf, done}
-use Rattle.desk.specs.Checks.{Check, Verdict, accepted, stopped, first, begins}
-use Rattle.desk.specs.Requests.{PushRequest}
-use Rattle.desk.specs.Decide.{referenceAt}
-use Rattle.desk.specs.Token.{codeAt}
-use Rattle.desk.specs.Resource.{tokenPlace}
+use Rattle.desk.specs.Checks.{Check, Verdict, accepted, stopped, first}
 use Rattle.desk.specs.declared.answer.Refusal.{Refusal}
 use Rattle.conduct.proofs.Turns.{Passed, Turn, by-turns, numberBy}
 use Rattle.conduct.proofs.Rows.{push-passed, push-turn, decide-passed, decide-turn, token-passed, token-turn, resource-passed, resource-turn, sweep-passed, sweep-turn}
@@ -96,12 +91,3 @@ number-is l (sweep t) = by-checks _ _ (sweep-passed l t) (sweep-turn l t)
 pub else-answers : (l : List ℕ) (c : Call) (why : Refusal) (b : Bool) → elseInOrder why (checksOf l c) ≡ true → conditionOf why (checksOf l c) ≡ b
     → numberIn (step l c .answer) ≡ numberIf why b
 else-answers l c why b e h = number-is l c ∙ else-number why (checksOf l c) e ∙ ap (numberIf why) h
-
--- and an accepted call has passed them all
-pub accepted-passed : (l : List ℕ) (c : Call) → numberIn (step l c .answer) ≡ done → Passed (checksOf l c)
-unfolding step
-accepted-passed l (push t table p) e = push-passed l t table p .0 e
-accepted-passed l (decide t d out) e = decide-passed l t d out .0 e
-accepted-passed l (token t table q) e = token-passed l t table q .0 e
-accepted-passed l (resource t q) e = resource-passed l t q .0 e
-accepted-passed l (sweep t) e = sweep-passed l t .0 e

@@ -2,7 +2,6 @@
 use Prim.Native.Nat.{ℕ}
 use mathlib.Core.Path.{_≡_, refl, sym, ap, ap₂, _∙_}
 use mathlib.Core.List.{List}
-use Rattle.desk.specs.Requests.{PushRequest, DecideRequest, TokenRequest, ResourceRequest}
 use Rattle.desk.specs.Start.{Started, leftAt, start}
 use Rattle.desk.specs.Push.{Outcome, left, push}
 use Rattle.desk.specs.Decide.{Decision, leftBoth, decide}

@@ -1,14 +1,14 @@
 -- One call with one thing varied: P7 and P9 to P12. Assumes nothing.
 use Prim.Native.Nat.{ℕ, _+_, _/_}
-use mathlib.Core.Path.{_≡_, refl, sym, ap, ap₂, _∙_}
+use mathlib.Core.Path.{_≡_, refl, ap, ap₂, _∙_}
 use mathlib.Core.Bool.{Bool, true, false, not, _&&_, _||_, cond}
-use mathlib.Core.List.{List, [], _∷_}
+use mathlib.Core.List.{List}
 use lib.ListN.{length}
 use borrow.Author.Tests.{not-false}
 use Rattle.octets.specs.Lists.{some, every}
-use Rattle.octets.specs.Parts.{zeros, same}
-use Rattle.forms.specs.Limits.{redirectPrefix, verifierLeast, verifierMost}
-use Rattle.forms.specs.Forms.{between, visible, unreserved, redirectFormed, challengeFormed, verifierFormed}
+use Rattle.octets.specs.Parts.{zeros}
+use Rattle.forms.specs.Limits.{verifierLeast, verifierMost}
+use Rattle.forms.specs.Forms.{between, unreserved, redirectFormed, verifierFormed}
 use Rattle.sha256.specs.Pad.{blocks}
 use Rattle.sha256.proofs.Padding.{blocks-of}
 use Rattle.ledger.specs.Fields.{records, rec}
@@ -16,19 +16,17 @@ use Rattle.ledger.specs.Sound.{sound, holds}
 use Rattle.ledger.specs.Checks.{isReference, taken}
 use Rattle.upkeep.proofs.Says.{of-sound}
 use Rattle.upkeep.proofs.Searches.{some-in, first-in, reference-holds}
-use Rattle.clients.specs.Fields.{permitted}
 use Rattle.desk.specs.Answers.{numberOf, done}
 use Rattle.desk.specs.Checks.{scopeFits}
-use Rattle.desk.specs.Requests.{PushRequest, DecideRequest, TokenRequest}
-use Rattle.desk.specs.Push.{asker, pushChecks}
+use Rattle.desk.specs.Requests.{DecideRequest}
+use Rattle.desk.specs.Push.{pushChecks}
 use Rattle.desk.specs.Decide.{referenceAt, decideChecks}
-use Rattle.desk.specs.Token.{codeAt, tokenChecks}
+use Rattle.desk.specs.Token.{tokenChecks}
 use Rattle.desk.specs.declared.answer.Refusal.the-variants.{LedgerUnsound, IllFormed, ScopeRefused, FreshTaken, NoReference}
-use Rattle.history.specs.Runs.{Call, push, decide, token, step, numberIn}
+use Rattle.history.specs.Runs.{Call, push, decide, token}
 use Rattle.history.proofs.Steps.{checksOf}
-use Rattle.cases.specs.Order.{elseInOrder}
 use Rattle.cases.specs.Cases.{PushScope, TokenVerifier, PushRedirect, DecideFresh, answers}
-use Rattle.cases.proofs.Order.{conditionOf, numberIf, else-passes, else-answers}
+use Rattle.cases.proofs.Order.{numberIf, else-passes, else-answers}
 
 -- P7: the number goes by the bits
 pub push-scope : (given bits : ℕ) (l : List ℕ) (c : Call) (b : Bool) → not (scopeFits bits given) ≡ b → PushScope given bits l c

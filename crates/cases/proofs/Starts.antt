@@ -5,7 +5,7 @@ use native.Mathlib.Decide.{decLt}
 use mathlib.Core.Path.{_≡_, refl, sym, ap, _∙_}
 use mathlib.Core.Logic.{_≢_}
 use mathlib.Core.Bool.{Bool, true, false, not, _&&_, _||_, cond}
-use mathlib.Core.List.{List, [], _∷_}
+use mathlib.Core.List.{List}
 use lib.Dec.{eqb, ltb, leb}
 use lib.ListN.{length, getD, take}
 use lib.Seq.{getD-take}
@@ -27,7 +27,7 @@ use Rattle.desk.specs.Sweep.{sweepChecks}
 use Rattle.desk.specs.declared.answer.Refusal.the-variants.{LedgerUnsound, TimeWrong}
 use Rattle.history.specs.Runs.{sweep, step, numberIn, started}
 use Rattle.cases.specs.Order.{elseInOrder}
-use Rattle.cases.proofs.Order.{conditionOf, numberIf, else-answers}
+use Rattle.cases.proofs.Order.{numberIf, else-answers}
 
 -- ---- start
 

@@ -1,11 +1,11 @@
 -- The last good second of a reference, a code and a token, and the one after it: P4 to P6. Assumes nothing.
-use Prim.Native.Nat.{ℕ, _+_, _<_, _^_}
+use Prim.Native.Nat.{ℕ, _+_, _<_}
 use native.Mathlib.Omega.{arith}
-use mathlib.Core.Path.{_≡_, refl, sym, ap, _∙_}
-use mathlib.Core.Logic.{inl, _↔_}
-use mathlib.Core.Bool.{Bool, true, false, not, _&&_}
-use mathlib.Core.List.{List, [], _∷_}
-use lib.Dec.{leb, eqb}
+use mathlib.Core.Path.{_≡_, refl, ap, _∙_}
+use mathlib.Core.Logic.{inl}
+use mathlib.Core.Bool.{Bool, true}
+use mathlib.Core.List.{List}
+use lib.Dec.{leb}
 use lib.ListN.{length}
 use borrow.Author.Tests.{not-false, eqb-false}
 use Rattle.octets.specs.Lists.{place}
@@ -18,17 +18,17 @@ use Rattle.ledger.specs.Fields.{records, rec, slots, nextNumber, expiry, withRe
 use Rattle.ledger.specs.Sound.{sound}
 use Rattle.ledger.specs.Checks.{isFree, isReference, isCode, isToken, expired}
 use Rattle.ledger.proofs.Records.{rec-length, slots-with, rec-same}
-use Rattle.upkeep.specs.View.{slotOf, pushedSlot, consentedSlot, redeemedSlot}
+use Rattle.upkeep.specs.View.{slotOf, pushedSlot}
 use Rattle.upkeep.proofs.Heads.{slots-clock, rec-clock, slots-next, rec-next, next-left}
 use Rattle.upkeep.proofs.Says.{of-sound}
 use Rattle.upkeep.proofs.Searches.{First, first-in, reference-first, code-first, token-first, reference-says, code-says, token-says}
 use Rattle.upkeep.proofs.Written.{Wrote, pushed-wrote, consented-wrote, redeemed-wrote}
-use Rattle.desk.specs.Answers.{numberOf, done}
-use Rattle.desk.specs.Requests.{PushRequest, DecideRequest, TokenRequest, ResourceRequest}
+use Rattle.desk.specs.Answers.{done}
+use Rattle.desk.specs.Requests.{PushRequest, DecideRequest, TokenRequest}
 use Rattle.desk.specs.Push.{Outcome, pushRecord, pushAt}
-use Rattle.desk.specs.Decide.{Decision, referenceAt, consentRecord, consentAt, decideAt, decideChecks}
+use Rattle.desk.specs.Decide.{Decision, referenceAt, consentRecord, consentAt, decideChecks}
 use Rattle.desk.specs.Token.{codeAt, tokenRecord, tokenAt, tokenChecks}
-use Rattle.desk.specs.Resource.{tokenPlace, resourceChecks}
+use Rattle.desk.specs.Resource.{resourceChecks}
 use Rattle.desk.specs.declared.answer.Refusal.the-variants.{LedgerUnsound, RecordExpired}
 use Rattle.desk.proofs.Written.{decide-yes, timely-lt}
 use Rattle.conduct.proofs.Turns.{number-refused}
@@ -37,9 +37,8 @@ use Rattle.conduct.proofs.Facts.{PushFacts, push-facts, decide-facts, token-fac
 use Rattle.conduct.proofs.Readings.{place-named}
 use Rattle.history.specs.Runs.{Call, push, decide, token, resource, TypedPush, TypedDecide, TypedToken, step, numberIn}
 use Rattle.history.proofs.Steps.{checksOf}
-use Rattle.cases.specs.Order.{elseInOrder}
 use Rattle.cases.specs.Cases.{DecideAfter, TokenAfter, ResourceAfter, answers}
-use Rattle.cases.proofs.Order.{conditionOf, numberIf, else-passes, else-answers}
+use Rattle.cases.proofs.Order.{numberIf, else-passes, else-answers}
 
 -- ---- what the first call leaves: a record that the second finds, good until a time
 
@@ -117,8 +116,8 @@ module _ (l : List ℕ) (t : ℕ) (d : DecideRequest) (out : List ℕ) (y : Type
       let was = reference-says (d .reference) (d .client) (rec l k) .0 (found .passes) in
       let b = timely-lt l t (f .in-time) in
       let a =
-          consented-wrote (t + codeLifetime) (d .holder) (d .fresh) (rec l k) (omega arith) (y .holder) (y .fresh .long)
-          (rec-length l k (found .inside)) in
+      consented-wrote (t + codeLifetime) (d .holder) (d .fresh) (rec l k) (omega arith) (y .holder) (y .fresh .long)
+      (rec-length l k (found .inside)) in
       rw (decide-yes l t d out k says refl)
       (written-stands l t k r (isCode (d .fresh) (d .client)) (t + codeLifetime) (found .inside) (a .long)
       (code-says (d .fresh) (d .client) r .1 (inl (a .state-is), (a .value-is, a .client-is ∙ was .1 .1))) (a .expiry-is)))
@@ -137,8 +136,8 @@ module _ (l : List ℕ) (t : ℕ) (table : List ℕ) (q : TokenRequest) (y : Typ
       let found = first-in (isCode (q .code) (q .client)) l (f .there) in
       let b = timely-lt l t (f .in-time) in
       let a =
-          redeemed-wrote (t + tokenLifetime) (q .fresh) (q .presented) (rec l k) (omega arith) (y .fresh .long) (y .presented .long)
-          (rec-length l k (found .inside)) in
+      redeemed-wrote (t + tokenLifetime) (q .fresh) (q .presented) (rec l k) (omega arith) (y .fresh .long) (y .presented .long)
+      (rec-length l k (found .inside)) in
       written-stands l t k r (isToken (q .fresh)) (t + tokenLifetime) (found .inside) (a .long) (token-says (q .fresh) r .1 (a .state-is, a .token-is)) (a .expiry-is))
 
 -- ---- the second call finds it, and goes by the time
@@ -155,7 +154,7 @@ decide-time a t l c b h f =
     let call = decide t d (f .output) in
     let is-sound = not-false (sound l) (else-passes RecordExpired LedgerUnsound (checksOf l call) (f .in-order) refl) in
     let s : Stands (isReference (d .reference) (d .client)) (a + referenceLifetime) l
-        = rw (f .same-reference, f .same-client, f .leaves) (push-stands (f .before) a (f .table) (f .asked) (f .bytes) (f .typed) (f .accepted)) in
+    = rw (f .same-reference, f .same-client, f .leaves) (push-stands (f .before) a (f .table) (f .asked) (f .bytes) (f .typed) (f .accepted)) in
     ap (λ (d : Call). answers (l, d)) (f .is)
     ∙ else-answers l call RecordExpired b (f .in-order)
     (found-expired (isReference (d .reference) (d .client)) (a + referenceLifetime) t l s
@@ -169,7 +168,7 @@ token-time a t l c b h f =
     let call = token t (f .table) q in
     let is-sound = not-false (sound l) (else-passes RecordExpired LedgerUnsound (checksOf l call) (f .in-order) refl) in
     let s : Stands (isCode (q .code) (q .client)) (a + codeLifetime) l
-        = rw (f .same-code, f .same-client, f .leaves) (consent-stands (f .before) a (f .allowed) (f .output) (f .typed) (f .yes) (f .accepted)) in
+    = rw (f .same-code, f .same-client, f .leaves) (consent-stands (f .before) a (f .allowed) (f .output) (f .typed) (f .yes) (f .accepted)) in
     ap (λ (d : Call). answers (l, d)) (f .is)
     ∙ else-answers l call RecordExpired b (f .in-order)
     (found-expired (isCode (q .code) (q .client)) (a + codeLifetime) t l s
@@ -183,7 +182,7 @@ resource-time a t l c b h f =
     let call = resource t q in
     let is-sound = not-false (sound l) (else-passes RecordExpired LedgerUnsound (checksOf l call) (f .in-order) refl) in
     let s : Stands (isToken (q .token)) (a + tokenLifetime) l
-        = rw (f .same-token, f .leaves) (token-stands (f .before) a (f .table) (f .redeemed) (f .typed) (f .accepted)) in
+    = rw (f .same-token, f .leaves) (token-stands (f .before) a (f .table) (f .redeemed) (f .typed) (f .accepted)) in
     ap (λ (d : Call). answers (l, d)) (f .is)
     ∙ else-answers l call RecordExpired b (f .in-order)
     (found-expired (isToken (q .token)) (a + tokenLifetime) t l s

@@ -10,7 +10,7 @@ use Rattle.ledger.specs.Fields.{nextNumber}
 use Rattle.ledger.specs.Sweep.{freed}
 use Rattle.ledger.specs.declared.sweep.Freed.{Freed}
 use Rattle.desk.specs.Answers.{done}
-use Rattle.desk.specs.Requests.{PushRequest, DecideRequest, TokenRequest, ResourceRequest}
+use Rattle.desk.specs.Requests.{PushRequest, DecideRequest}
 use Rattle.history.specs.Runs.{Call, push, decide, token, resource, sweep, Bytes, TypedPush, AllTyped, Said, answered, decided, swept, step, numberIn, grantOf, started, last}
 
 -- ---- a desk, and what the promises allow it

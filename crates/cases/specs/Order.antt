@@ -1,5 +1,5 @@
 -- "In P4 to P11 all else in the call is in order": every check of the call passes but the one that the case speaks of, whichever way that one goes.
-use mathlib.Core.Bool.{Bool, true, false, not, _&&_, cond}
+use mathlib.Core.Bool.{Bool, true, not, _&&_, cond}
 use mathlib.Core.List.{List, [], _∷_}
 use lib.Dec.{eqb}
 use Rattle.octets.specs.Lists.{every}

@@ -2,25 +2,7 @@
 use Prim.Native.Nat.{ℕ, _-_, _^_}
 use mathlib.Core.Path.{_≡_}
 use mathlib.Core.List.{List, [], _∷_}
-use Rattle.cases.specs.Cases.{
-  Varied,
-  startLength,
-  startByte,
-  startOther,
-  decideTime,
-  tokenTime,
-  resourceTime,
-  pushScope,
-  sweepTime,
-  tokenVerifier,
-  formVerifier,
-  pushRedirect,
-  decideFresh,
-  messageLength,
-  Input,
-  InOrder,
-  outcome,
-}
+use Rattle.cases.specs.Cases.{Varied, startLength, startByte, startOther, decideTime, tokenTime, resourceTime, pushScope, sweepTime, tokenVerifier, formVerifier, pushRedirect, decideFresh, messageLength, Input, InOrder, outcome}
 
 -- a row: the case's number, what is varied, and the number expected
 pub record Row : Type 0 where
