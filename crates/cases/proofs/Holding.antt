@@ -1,5 +1,5 @@
 -- Every row of the table holds. Assumes nothing.
-use Prim.Native.Nat.{ℕ, _-_, _^_}
+use Prim.Native.Nat.{ℕ}
 use native.Mathlib.Omega.{arith}
 use mathlib.Core.Path.{_≡_, refl, ap₂, _∙_}
 use mathlib.Core.Bool.{Bool, true, false}
@@ -13,7 +13,7 @@ use Rattle.desk.specs.Checks.{scopeFits}
 use Rattle.desk.specs.declared.answer.Refusal.the-variants.{TimeWrong}
 use Rattle.history.specs.Runs.{Call, step, numberIn}
 use Rattle.cases.specs.Cases.{SweepFresh, answers}
-use Rattle.cases.specs.Table.{shortest, tooShort, notSecure, rows, Holds, Each}
+use Rattle.cases.specs.Table.{rows, Holds, Each}
 use Rattle.cases.proofs.Order.{numberIf}
 use Rattle.cases.proofs.Starts.{start-number, start-fifteen, start-other, sweep-fresh}
 use Rattle.cases.proofs.Single.{push-scope, well-formed, token-verifier, push-redirect, decide-fresh, message-blocks}
@@ -31,33 +31,33 @@ a and b = (a, b)
 pub every-row-holds : Each Holds rows
 unfolding scopeFits same redirectPrefix visible redirectFormed
 every-row-holds =
-    (λ l e. start-number l 288 true e refl)
+    (λ l e. start-number l _ true e refl)
     and (λ l e. start-fifteen l 288 e refl (omega arith))
     and (λ x f. start-other (x .0) 288 (x .1) (f .0) refl (omega arith) (f .1 .0) (f .1 .1))
-    and (λ l e. start-number l 287 false e refl)
-    and (λ l e. start-number l 51232 true e refl)
-    and (λ l e. start-number l 51488 false e refl)
-    and (λ x f. decide-time 1000 1598 (x .0) (x .1) false refl f)
-    and (λ x f. decide-time 1000 1599 (x .0) (x .1) true refl f)
-    and (λ x f. token-time 1000 1059 (x .0) (x .1) false refl f)
-    and (λ x f. token-time 1000 1060 (x .0) (x .1) true refl f)
-    and (λ x f. resource-time 1059 1358 (x .0) (x .1) false refl f)
-    and (λ x f. resource-time 1059 1359 (x .0) (x .1) true refl f)
-    and (λ x f. push-scope 5 4 (x .0) (x .1) false refl f)
-    and (λ x f. push-scope 5 2 (x .0) (x .1) true refl f)
-    and (λ x f. push-scope 5 0 (x .0) (x .1) true refl f)
-    and (sweep-time (2 ^ 40 - 1) false refl)
-    and (sweep-time (2 ^ 40) true refl)
-    and (λ x f. token-verifier 42 (x .0) (x .1) refl f)
-    and (λ s f. well-formed s 43 (f .0) refl (f .1))
-    and (λ s f. well-formed s 128 (f .0) refl (f .1))
-    and (λ x f. token-verifier 129 (x .0) (x .1) refl f)
-    and (λ x f. push-redirect shortest (x .0) (x .1) false refl f)
-    and (λ x f. push-redirect tooShort (x .0) (x .1) true refl f)
-    and (λ x f. push-redirect notSecure (x .0) (x .1) true refl f)
+    and (λ l e. start-number l _ false e refl)
+    and (λ l e. start-number l _ true e refl)
+    and (λ l e. start-number l _ false e refl)
+    and (λ x f. decide-time _ _ (x .0) (x .1) false refl f)
+    and (λ x f. decide-time _ _ (x .0) (x .1) true refl f)
+    and (λ x f. token-time _ _ (x .0) (x .1) false refl f)
+    and (λ x f. token-time _ _ (x .0) (x .1) true refl f)
+    and (λ x f. resource-time _ _ (x .0) (x .1) false refl f)
+    and (λ x f. resource-time _ _ (x .0) (x .1) true refl f)
+    and (λ x f. push-scope _ _ (x .0) (x .1) false refl f)
+    and (λ x f. push-scope _ _ (x .0) (x .1) true refl f)
+    and (λ x f. push-scope _ _ (x .0) (x .1) true refl f)
+    and (sweep-time _ false refl)
+    and (sweep-time _ true refl)
+    and (λ x f. token-verifier _ (x .0) (x .1) refl f)
+    and (λ s f. well-formed s _ (f .0) refl (f .1))
+    and (λ s f. well-formed s _ (f .0) refl (f .1))
+    and (λ x f. token-verifier _ (x .0) (x .1) refl f)
+    and (λ x f. push-redirect _ (x .0) (x .1) false refl f)
+    and (λ x f. push-redirect _ (x .0) (x .1) true refl f)
+    and (λ x f. push-redirect _ (x .0) (x .1) true refl f)
     and (λ x f. decide-fresh (x .0) (x .1) f)
-    and (λ m e. message-blocks m 55 e)
-    and (λ m e. message-blocks m 56 e)
-    and (λ m e. message-blocks m 119 e)
-    and (λ m e. message-blocks m 120 e)
+    and (λ m e. message-blocks m _ e)
+    and (λ m e. message-blocks m _ e)
+    and (λ m e. message-blocks m _ e)
+    and (λ m e. message-blocks m _ e)
     and tt
