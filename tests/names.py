@@ -1,5 +1,5 @@
 #!/usr/bin/env python3
-"""Every file and name that docs/PROMISES.md cites exists.
+"""Every file and name that the pages cite exists.
 
 A citation is `path/to/file: name, name`, in backticks; each name counts as one test. A path alone, `crates/NAME/src`, must exist.
 In .rt a name is a function, struct, enum, constant or case (`Type::name` is a name of that type's file); in .antt a definition, law,
@@ -11,7 +11,7 @@ import sys
 from pathlib import Path
 
 TOP = Path(__file__).resolve().parent.parent
-PAGE = "docs/PROMISES.md"
+PAGES = ["docs/PROMISES.md", "docs/OUTCOMES.md", "docs/READING.md", "docs/TRUST.md", "README.md"]
 CITATION = re.compile(r"`((?:crates|docs|tests|second|tools)/[^`:\s]+)(?::\s*([^`]+))?`(?: line (\d+))?")
 
 ANTT_COMMENT = re.compile(r"(?<!\S)--[^\n]*|\{-.*?-\}", re.S)
@@ -48,23 +48,23 @@ def within(file, name, line):
 
 def problems(page):
     """For each citation of the page what is wrong with it, or None."""
-    for number, line in enumerate(page.split("\n"), 1):
+    for number, line in enumerate((TOP / page).read_text(encoding="utf8").split("\n"), 1):
         for path, names, place in CITATION.findall(line):
             file = TOP / path
             for name in re.split(r",\s*", names.strip()) if names else [None]:
                 if not (file.is_file() if name else file.exists()):
-                    yield f"{PAGE}:{number}: no {path}"
+                    yield f"{page}:{number}: no {path}"
                 elif name and not defines(file, name):
-                    yield f"{PAGE}:{number}: {path} defines no {name}"
+                    yield f"{page}:{number}: {path} defines no {name}"
                 else:
                     yield None
             if place and file.is_file():
                 last = re.split(r",\s*", names.strip())[-1]
-                yield None if within(file, last, int(place)) else f"{PAGE}:{number}: line {place} of {path} is not in {last}"
+                yield None if within(file, last, int(place)) else f"{page}:{number}: line {place} of {path} is not in {last}"
 
 
 if __name__ == "__main__":
-    found = list(problems((TOP / PAGE).read_text(encoding="utf8"))) or [f"{PAGE} cites nothing"]
+    found = [problem for page in PAGES for problem in list(problems(page)) or [f"{page} cites nothing"]]
     wrong = [problem for problem in found if problem]
     print(*wrong, sep="\n", end="\n" if wrong else "")
     print(f"{len(found) - len(wrong)} passed, {len(wrong)} failed")
