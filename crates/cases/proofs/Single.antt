@@ -1,10 +1,12 @@
 -- One call with one thing varied: P7 and P9 to P12. Assumes nothing.
 use Prim.Native.Nat.{ℕ, _+_, _/_}
-use mathlib.Core.Path.{_≡_, refl, ap, ap₂, _∙_}
+use mathlib.Core.Path.{_≡_, refl, sym, ap, ap₂, _∙_}
 use mathlib.Core.Bool.{Bool, true, false, not, _&&_, _||_, cond}
 use mathlib.Core.List.{List}
 use lib.ListN.{length}
-use borrow.Author.Tests.{not-false}
+use lib.Bits.{and-zero-r}
+use lib.Dec.{eqb}
+use borrow.Author.Tests.{not-false, eqb-false, ne-eqb}
 use Rattle.octets.specs.Lists.{some, every}
 use Rattle.octets.specs.Parts.{zeros}
 use Rattle.forms.specs.Limits.{verifierLeast, verifierMost}
@@ -17,7 +19,7 @@ use Rattle.ledger.specs.Checks.{isReference, taken}
 use Rattle.upkeep.proofs.Says.{of-sound}
 use Rattle.upkeep.proofs.Searches.{some-in, first-in, reference-holds}
 use Rattle.desk.specs.Answers.{numberOf, done}
-use Rattle.desk.specs.Checks.{scopeFits}
+use Rattle.desk.specs.Checks.{within, scopeFits}
 use Rattle.desk.specs.Requests.{DecideRequest}
 use Rattle.desk.specs.Push.{pushChecks}
 use Rattle.desk.specs.Decide.{referenceAt, decideChecks}
@@ -36,6 +38,18 @@ push-scope given bits l c b h f =
     ap (λ (d : Call). answers (l, d)) (f .is)
     ∙ else-answers l (push (f .time) (f .table) (f .request)) ScopeRefused b (f .in-order)
     (ap₂ (λ (x y : ℕ). not (scopeFits x y)) (f .asked-are) (f .permitted-are) ∙ h)
+
+-- "Permitted scope may be 0; such a client is refused by scope.": whatever it asks for
+none-fit : (bits : ℕ) → scopeFits bits 0 ≡ false
+unfolding scopeFits
+none-fit bits = by (eqb bits 0) refl
+  where
+    by : (b : Bool) → eqb bits 0 ≡ b → (not b && within bits 0) ≡ false
+    by true e = refl
+    by false e = ap (λ (x : ℕ). eqb x bits) (and-zero-r bits) ∙ ne-eqb 0 bits (λ z. eqb-false bits 0 e (sym z))
+
+pub none-permitted : (bits : ℕ) (l : List ℕ) (c : Call) → PushScope 0 bits l c → answers (l, c) ≡ numberOf ScopeRefused
+none-permitted bits l c f = push-scope 0 bits l c true (ap not (none-fit bits)) f
 
 -- P9: by the verifier's length
 abbrev pub longRight : ℕ → Bool
