@@ -4,7 +4,7 @@
 A citation is `path/to/file: name, name`, in backticks; each name counts as one test. A path alone, `crates/NAME/src`, must exist.
 In .rt a name is a function, struct, enum, constant or case (`Type::name` is a name of that type's file); in .antt a definition, law,
 record, field, data type or ruleset; in other files a string that occurs. Behind a citation of a .rt file `line 12` is one test more:
-line 12 is within the last name, which no function or constant begins after.
+line 12 is within the last name, which no function or constant begins after. A block fenced as ```antt path``` stands in that file, word for word.
 """
 import re
 import sys
@@ -13,6 +13,8 @@ from pathlib import Path
 TOP = Path(__file__).resolve().parent.parent
 PAGES = ["docs/PROMISES.md", "docs/OUTCOMES.md", "docs/READING.md", "docs/TRUST.md", "README.md"]
 CITATION = re.compile(r"`((?:crates|docs|tests|second|tools)/[^`:\s]+)(?::\s*([^`]+))?`(?: line (\d+))?")
+
+BLOCK = re.compile(r"^```antt (\S+)\n(.*?)^```$", re.S | re.M)
 
 ANTT_COMMENT = re.compile(r"(?<!\S)--[^\n]*|\{-.*?-\}", re.S)
 RATTLE_COMMENT = re.compile(r"//[^\n]*")
@@ -48,7 +50,11 @@ def within(file, name, line):
 
 def problems(page):
     """For each citation of the page what is wrong with it, or None."""
-    for number, line in enumerate((TOP / page).read_text(encoding="utf8").split("\n"), 1):
+    text = (TOP / page).read_text(encoding="utf8")
+    for path, block in BLOCK.findall(text):
+        file = TOP / path
+        yield None if file.is_file() and block in file.read_text(encoding="utf8") else f"{page}: a block is not in {path}"
+    for number, line in enumerate(text.split("\n"), 1):
         for path, names, place in CITATION.findall(line):
             file = TOP / path
             for name in re.split(r",\s*", names.strip()) if names else [None]:
