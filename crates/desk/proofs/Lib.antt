@@ -1,8 +1,3 @@
--- The laws of the calls.
+-- Laws of the desk's own checks, and of what the calls write.
 pub mod Told
 pub mod Written
-pub mod Pushing
-pub mod Deciding
-pub mod Redeeming
-pub mod Looking
-pub mod Ends

@@ -12,8 +12,8 @@ use Rattle.desk.specs.Checks.{Check, _when_, Verdict, accepted, stopped,
 use Rattle.desk.specs.Push.{Outcome, left}
 use Rattle.desk.specs.Requests.{ResourceRequest}
 use Rattle.desk.specs.declared.answer.Refusal.the-variants.{ScopeRefused, RecordExpired, NoToken, KeyDiffers, HolderDiffers}
-use Rattle.desk.specs.declared.resource.Reading.{Reading}
-use Rattle.desk.specs.declared.resource.Reading.the-variants.{Granted, Refused}
+use Rattle.desk.specs.declared.answer.Reading.{Reading}
+use Rattle.desk.specs.declared.answer.Reading.the-variants.{Granted, Refused}
 
 -- where the record in state 3 with this token is
 abbrev pub tokenPlace : List ℕ → ResourceRequest → ℕ

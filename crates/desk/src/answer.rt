@@ -164,3 +164,9 @@ impl Swept {
         }
     }
 }
+
+// What resource's looking half answers.
+pub enum Reading {
+    Granted(Answer),
+    Refused(Refusal),
+}

@@ -1,11 +1,5 @@
-// Desk: the six calls start, push, decide, token, resource and sweep, and their answers (document 01, sections "The calls, with checks in order"
-// and "Numbers returned"). It rests on ledger, clients, forms and s256, and serves demands 1 and 2: every call has one definition in specs/, and its
-// contract is one equation with it, for every ledger, table, request and buffer.
+// Desk: what the six calls are and what they answer (document 01, sections "The calls, with checks in order" and "Numbers returned"): one definition a
+// call in specs/, the answers with their constructors, and the checks that are the desk's own. It rests on ledger, clients, forms and s256. The calls
+// themselves, start, push, decide, token, resource and sweep, are a crate each above it.
 pub mod answer;
-mod check;
-pub mod decide;
-pub mod push;
-pub mod resource;
-pub mod start;
-pub mod sweep;
-pub mod token;
+pub mod check;

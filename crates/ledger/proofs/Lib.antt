@@ -1,8 +1,6 @@
 -- The laws of the ledger.
 pub mod Records
 pub mod Loops
-pub mod ShortCuts
-pub mod Redirects
 pub mod Swept
 pub mod Told
 pub mod Profile

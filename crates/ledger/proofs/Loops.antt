@@ -9,7 +9,6 @@ use Rattle.octets.specs.Lists.{every, some, place, apart}
 use Rattle.octets.proofs.Lists.{every-hit, every-miss, every-end, some-hit, some-miss, some-end, place-hit, place-miss, apart-hit, apart-miss, apart-end}
 use Rattle.ledger.specs.Fields.{rec, slots, records}
 use Rattle.ledger.specs.Checks.{found}
-use Rattle.ledger.specs.Quick.{partner}
 use Rattle.ledger.specs.declared.find.Found.{Found}
 use Rattle.ledger.specs.declared.find.Found.the-variants.{At, Nothing}
 use Rattle.ledger.proofs.Records.{length-records, records-at}
@@ -94,14 +93,3 @@ module _ (clash : List ℕ → List ℕ → Bool) (l : List ℕ) (i : ℕ) where
 
   pub apart-rec-end : slots l ≤ i → apart clash (drop i (records l)) ≡ true
   apart-rec-end h = apart-end clash (records l) i (rw (length-records l) h)
-
--- where a record is passed over, nothing is missed
-pub row-start : (q : List ℕ → Bool) (l : List ℕ) (i n : ℕ) (b : Bool) → n ≡ slots l → (b ≡ true → (s : List ℕ) → q s ≡ false)
-    → some q (drop (i + 1) (records l)) ≡ some q (drop (partner b i n) (records l))
-unfolding partner
-row-start q l i n true e none = none-in (drop (i + 1) (records l)) ∙ sym (some-rec-end q l n (omega arith))
-  where
-    none-in : (xs : List (List ℕ)) → some q xs ≡ false
-    none-in [] = refl
-    none-in (x ∷ xs) = rw (none refl x, none-in xs)
-row-start q l i n false e none = refl

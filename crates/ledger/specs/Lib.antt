@@ -5,4 +5,3 @@ pub mod Sound
 pub mod Checks
 pub mod Write
 pub mod Sweep
-pub mod Quick

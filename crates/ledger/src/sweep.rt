@@ -10,7 +10,7 @@ ghost use Rattle.ledger.specs.declared.state.State.the-variants.{Pushed,
 ghost use Rattle.ledger.specs.Checks.{expired};
 ghost use Rattle.ledger.specs.Sweep.{sweptRecord, swept, due, freed};
 use super::limit::Ledger;
-use super::place::whole;
+use super::record::at;
 use super::record::expiry;
 use super::record::slots;
 use super::record::state;
@@ -78,7 +78,7 @@ pub fn sweep(l: &mut [u8], time: u64) -> Freed
     };
     let mut k = 0;
     while k < n {
-        f = counted(f, whole(l, k), time);
+        f = counted(f, at(l, k), time);
         sweep_at(l, k, time);
         k += 1;
     }

@@ -21,11 +21,9 @@ module _ (s : List ℕ) (i : ℕ) where
   unfolding zeros
   zeros-at h = rw (add-one, drop-cons s i 0)
 
-  pub zeros-hit : i < length s → (getD s i 0 ≡ 0 → ⊥) → zeros (drop i s) ≡ false
-  zeros-hit h n = zeros-at h ∙ rw (ne-eqb (getD s i 0) 0 n)
-
-  pub zeros-miss : i < length s → getD s i 0 ≡ 0 → zeros (drop i s) ≡ zeros (drop (i + 1) s)
-  zeros-miss h e = zeros-at h ∙ rw (eq-eqb (getD s i 0) 0 e)
+  pub zeros-more : (clean : Bool) → i < length s → (clean && zeros (drop i s)) ≡ ((clean && eqb (getD s i 0) 0) && zeros (drop (i + 1) s))
+  zeros-more true h = zeros-at h
+  zeros-more false h = refl
 
   pub zeros-end : length s ≤ i → zeros (drop i s) ≡ true
   unfolding zeros

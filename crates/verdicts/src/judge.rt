@@ -11,7 +11,7 @@ use libc::STDOUT_FILENO;
 pub fn is_ledger(l: &[u8]) -> bool
     ensures { λ b. ⌜ b ≡ soundLedger (now (l .entry)) ⌝ }
 {
-    let Soundness::Sound(_) = ledger::sound::check(l) else {
+    let Soundness::Sound(_) = soundness::check(l) else {
         return false;
     };
     true

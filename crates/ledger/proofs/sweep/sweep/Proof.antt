@@ -22,9 +22,6 @@ loop-holds : tie.Need-loop-holds Inv-loop μ-loop
 unfolding sweptTo
 loop-holds c = (c .slots .ensures, search needs, refl, tally-none _ _ _, tally-none _ _ _, tally-none _ _ _)
 
-whole-requires : tie.Need-whole-requires Inv-loop μ-loop
-whole-requires c κs = let p = c .before .before .loop in slot-so _ _ _ (p .k) (p .inv .2) (omega arith)
-
 counted-requires : tie.Need-counted-requires Inv-loop μ-loop
 counted-requires c κs = let p = c .before .before .before .loop in let x = p .inv .3 .most in let y = p .inv .4 .most in let z = p .inv .5 .most in let s = slots-small (c .before .before .before .before .before .before .before .args .l .now) in (omega arith, omega arith, omega arith)
 
@@ -32,7 +29,7 @@ sweep-at-requires : tie.Need-sweep-at-requires Inv-loop μ-loop
 sweep-at-requires c κs = let p = c .before .before .before .before .before .loop in slot-so _ _ _ (p .k) (p .inv .2) (omega arith)
 
 loop-again : tie.Need-loop-again Inv-loop μ-loop
-loop-again c = let p = c .before .before .before .before .before .before .before .before .loop in let a = c .before .before .before .before .before .before .before .before .before .before .before .before .args in let l = a .l .now in let t = a .time in let w = c .before .before .before .before .before .whole .ensures .0 ∙ ap (λ (m : List ℕ). rec m (p .k)) (p .inv .2) ∙ rec-ahead t l (p .k) (p .k) (omega arith) (omega arith) in (p .inv .0, search needs, c .before .before .sweep-at .ensures ∙ swept-more t l (p .k) (p .l) (omega arith) (p .inv .2), tally-more Pushed t l (p .f .pushed) _ (p .k) (omega arith) (rw w at (c .before .before .before .before .counted .ensures .0)) (p .inv .3), tally-more Consented t l (p .f .consented) _ (p .k) (omega arith) (rw w at (c .before .before .before .before .counted .ensures .1)) (p .inv .4), tally-more Redeemed t l (p .f .redeemed) _ (p .k) (omega arith) (rw w at (c .before .before .before .before .counted .ensures .2)) (p .inv .5))
+loop-again c = let p = c .before .before .before .before .before .before .before .before .loop in let a = c .before .before .before .before .before .before .before .before .before .before .before .before .args in let l = a .l .now in let t = a .time in let w = c .before .before .before .before .before .at .ensures ∙ ap (λ (m : List ℕ). rec m (p .k)) (p .inv .2) ∙ rec-ahead t l (p .k) (p .k) (omega arith) (omega arith) in (p .inv .0, search needs, c .before .before .sweep-at .ensures ∙ swept-more t l (p .k) (p .l) (omega arith) (p .inv .2), tally-more Pushed t l (p .f .pushed) _ (p .k) (omega arith) (rw w at (c .before .before .before .before .counted .ensures .0)) (p .inv .3), tally-more Consented t l (p .f .consented) _ (p .k) (omega arith) (rw w at (c .before .before .before .before .counted .ensures .1)) (p .inv .4), tally-more Redeemed t l (p .f .redeemed) _ (p .k) (omega arith) (rw w at (c .before .before .before .before .counted .ensures .2)) (p .inv .5))
 
 same-length : tie.Need-same-length Inv-loop μ-loop
 same-length c = let p = c .before .loop in ap length (p .inv .2) ∙ length-to _ _ (p .k) (omega arith)
@@ -48,7 +45,7 @@ sweep-spec =
     μ-loop
     (search needs)
     loop-holds
-    whole-requires
+    (λ c κs. search needs)
     counted-requires
     sweep-at-requires
     (search needs)

@@ -1,0 +1,23 @@
+use Rattle.decide.proofs.check_fresh.Statement.{statement}
+use Rattle.desk.specs.Told.{toldIf}
+use Rattle.ledger.proofs.Told.{fresh-told}
+use borrow.Author.Needs.{needs}
+use borrow.Author.Tests.{not-true, not-false}
+use mathlib.Core.Path.{sym, _∙_}
+use Rattle.decide.proofs.check_fresh.Tie as tie
+
+returns : tie.Need-returns
+unfolding toldIf
+returns c = rw (not-true (c .before .before .args .yes) (c .if1 .taken))
+
+returns-2 : tie.Need-returns-2
+unfolding toldIf
+returns-2 c = rw (not-false (c .before .before .before .before .before .args .yes) (c .before .before .before .if1 .left), fresh-told _ _ _ (sym (c .before .before .check .ensures) ∙ c .enum-told2 .given .1))
+
+returns-3 : tie.Need-returns-3
+unfolding toldIf
+returns-3 c = rw (not-false (c .before .before .before .before .before .args .yes) (c .before .before .before .if1 .left), fresh-told _ _ _ (sym (c .before .before .check .ensures) ∙ c .enum-told .given .1))
+
+pub check-fresh-spec : {M : Type 1} → statement M
+check-fresh-spec =
+    tie.close (tie.spec returns (search needs) (search needs) (search needs) returns-2 returns-3)

@@ -1,0 +1,15 @@
+use Prim.Native.Nat.{ℕ}
+use Rattle.decide.proofs.decline.Statement.{statement}
+use Rattle.desk.specs.Answers.{answerNo}
+use Rattle.ledger.specs.Write.{free}
+use Rattle.octets.specs.Parts.{blank}
+use borrow.Author.Needs.{needs}
+use mathlib.Core.Path.{ap, _∙_}
+use Rattle.decide.proofs.decline.Tie as tie
+
+returns : tie.Need-returns
+unfolding free
+returns c = (c .before .before .clear .ensures ∙ ap blank (c .before .before .before .before .before .before .before .before .pre), c .before .before .before .before .no .ensures ∙ ap (λ (n : ℕ). answerNo n (c .before .before .before .before .before .before .before .before .args .holder)) (c .before .before .before .before .before .grant .ensures))
+
+pub decline-spec : {M : Type 1} → statement M
+decline-spec = tie.close (tie.spec (search needs) (search needs) (search needs) (search needs) returns)

@@ -1,0 +1,60 @@
+use Rattle.desk.proofs.Written.{decline-written}
+use Rattle.decide.proofs.refuse.Statement.{statement}
+use Rattle.ledger.proofs.Records.{slot-within}
+use borrow.Author.Needs.{needs}
+use native.Mathlib.Omega.{arith}
+use Rattle.decide.proofs.refuse.Tie as tie
+
+mul-a : tie.Need-mul-a
+mul-a c = omega (arith, slot-within _ _ (c .before .before .pre))
+
+add-a : tie.Need-add-a
+add-a c = omega (arith, slot-within _ _ (c .before .before .pre))
+
+add-redirect-length : tie.Need-add-redirect-length
+add-redirect-length c = omega (arith, slot-within _ _ (c .before .before .pre))
+
+part-redirect-length-end : tie.Need-part-redirect-length-end
+part-redirect-length-end c = omega (arith, slot-within _ _ (c .before .before .before .pre))
+
+add-hand-out : tie.Need-add-hand-out
+add-hand-out c = omega (arith, slot-within _ _ (c .before .before .before .before .before .before .pre))
+
+part-hand-out-end : tie.Need-part-hand-out-end
+part-hand-out-end c = omega (arith, slot-within _ _ (c .before .before .before .before .before .before .before .pre))
+
+add-decline : tie.Need-add-decline
+add-decline c = omega (arith, slot-within _ _ (c .before .before .before .before .before .before .before .before .before .before .before .pre))
+
+part-decline-end : tie.Need-part-decline-end
+part-decline-end c = omega (arith, slot-within _ _ (c .before .before .before .before .before .before .before .before .before .before .before .pre))
+
+returns : tie.Need-returns
+returns c = decline-written (c .before .before .before .before .before .before .before .before .before .before .before .before .before .before .before .before .before .before .before .before .args .ledger .now) (c .before .before .before .before .before .before .before .before .before .before .before .before .before .before .before .before .before .before .before .before .args .time) (c .before .before .before .before .before .before .before .before .before .before .before .before .before .before .before .before .before .before .before .before .args .k) (c .before .before .before .before .before .before .before .before .before .before .before .before .before .before .before .before .before .before .before .before .pre) (c .before .before .before .before .before .before .before .before .before .before .before .before .before .before .before .before .before .before .before .before .args .holder) (c .before .before .before .before .before .before .before .before .before .before .before .before .before .before .before .before .before .before .before .before .args .out .now) _ _ _ _ _ _ ((c .before .before .before .before .before .before .before .before .before .before .before .before .before .before .before .redirect-length) .ensures) ((c .before .before .before .before .before .before .before .before .before .before .before .hand-out) .ensures) ((c .before .before .before .before .before .before .before .decline) .ensures .0) ((c .before .before .before .before .before .before .before .decline) .ensures .1) ((c .before .before .before .set-clock) .ensures) ((c .with) .ensures)
+
+pub refuse-spec : {M : Type 1} → statement M
+refuse-spec =
+    tie.close
+    (tie.spec
+    mul-a
+    add-a
+    add-redirect-length
+    (search needs)
+    (search needs)
+    part-redirect-length-end
+    (search needs)
+    add-hand-out
+    (search needs)
+    (search needs)
+    part-hand-out-end
+    (search needs)
+    add-decline
+    (search needs)
+    (search needs)
+    part-decline-end
+    (search needs)
+    (search needs)
+    (search needs)
+    (search needs)
+    (search needs)
+    returns)

@@ -1,0 +1,149 @@
+// Decide: the holder who has logged in allows the request once, or declines it.
+// It rests on desk, which has its definition and its answers, on soundness and ledger, and serves demands 1 and 2.
+ghost use mathlib.Core.Path.{_≡_};
+ghost use Prim.Native.Nat.{_+_, _<_};
+ghost use lib.ListN.{length};
+ghost use Rattle.ledger.specs.Limits.{recordSize};
+ghost use mathlib.Core.Bool.{_&&_};
+ghost use Rattle.ledger.specs.Limits.{clockLimit};
+ghost use Rattle.ledger.specs.Fields.{grant, slots};
+ghost use Rattle.ledger.specs.Checks.{taken};
+ghost use Rattle.ledger.specs.Write.{consented, free};
+ghost use Rattle.desk.specs.Answers.{answerOf, answerNo};
+ghost use Rattle.desk.specs.Told.{toldIf};
+ghost use Rattle.desk.specs.Decide.{leftBoth, decide, handedOut, consentAt, declineAt};
+use desk::answer::Answer;
+use desk::answer::Decided;
+use desk::answer::Refusal;
+use desk::check;
+use desk::check::Told;
+use forms::Redirect;
+use ledger::clock::Timing;
+use ledger::clock::set_clock;
+use ledger::field::Field;
+use ledger::find::Found;
+use ledger::fresh::Freshness;
+use ledger::limit::Code;
+use ledger::limit::Ledger;
+use ledger::record::Life;
+use ledger::record::check_life;
+use ledger::record::redirect_length;
+use ledger::sound::Soundness;
+use octets::part::clear;
+use octets::part::cut;
+use octets::part::put;
+
+// Writes a consent into its record, and answers what the record then has.
+fn allow(r: &mut [u8], expiry: u64, holder: u64, fresh: &[u8; 32]) -> Answer
+    ensures { λ a. ⌜ (now (r .exit) ≡ consented expiry holder (now (fresh .entry)) (now (r .entry))) × (a ≡ answerOf (now (r .exit))) ⌝ }
+{
+    ledger::write::consented(r, expiry, holder, fresh);
+    Answer::of(r)
+}
+
+// Frees the record, and answers whose grant it was.
+fn decline(r: &mut [u8], holder: u64) -> Answer
+    requires { ⌜ length (now r) ≡ recordSize ⌝ }
+    ensures { λ a. ⌜ (now (r .exit) ≡ free) × (a ≡ answerNo (grant (now (r .entry))) holder) ⌝ }
+{
+    let answer = Answer::no(ledger::record::grant(r), holder);
+    clear(r);
+    answer
+}
+
+// Copies the record's redirect, with the zeros behind it, to the front of the output.
+fn hand_out(out: &mut [u8], r: &[u8])
+    ensures { λ _. ⌜ now (out .exit) ≡ handedOut (now (r .entry)) (now (out .entry)) ⌝ }
+{
+    put(out, 0, cut(r, Field::REDIRECT, Redirect::MOST));
+}
+
+// The fresh value is looked at on yes alone.
+fn check_fresh(ledger: &[u8], yes: bool, fresh: &[u8; 32]) -> Told
+    ensures { λ b. ⌜ b ≡ toldIf (yes && taken (now (ledger .entry)) (now (fresh .entry))) ⌝ }
+{
+    if !yes {
+        return Told::Passed;
+    }
+    let Freshness::Fresh = ledger::fresh::check(ledger, fresh) else {
+        return Told::Failed;
+    };
+    Told::Passed
+}
+
+// Yes: what is written once the record is found and all checks have passed.
+fn consent(
+    ledger: &mut [u8],
+    k: usize,
+    time: u64,
+    holder: u64,
+    fresh: &[u8; 32],
+    out: &mut [u8],
+) -> Decided
+    requires { ⌜ (k < slots (now ledger)) × (time < clockLimit) ⌝ }
+    ensures { λ r. ⌜ leftBoth r (now (ledger .exit)) (now (out .exit)) ≡ consentAt (now (ledger .entry)) time holder (now (fresh .entry)) (now (out .entry)) k ⌝ }
+{
+    let a = Ledger::HEAD + k * Ledger::RECORD;
+    let length = redirect_length(&ledger[a..a + Ledger::RECORD]);
+    hand_out(out, &ledger[a..a + Ledger::RECORD]);
+    let answer = allow(
+        &mut ledger[a..a + Ledger::RECORD],
+        time + Code::LIFETIME,
+        holder,
+        fresh,
+    );
+    set_clock(ledger, time);
+    Decided::with(answer, length)
+}
+
+// No: the same where the record is freed.
+fn refuse(ledger: &mut [u8], k: usize, time: u64, holder: u64, out: &mut [u8]) -> Decided
+    requires { ⌜ k < slots (now ledger) ⌝ }
+    ensures { λ r. ⌜ leftBoth r (now (ledger .exit)) (now (out .exit)) ≡ declineAt (now (ledger .entry)) time holder (now (out .entry)) k ⌝ }
+{
+    let a = Ledger::HEAD + k * Ledger::RECORD;
+    let length = redirect_length(&ledger[a..a + Ledger::RECORD]);
+    hand_out(out, &ledger[a..a + Ledger::RECORD]);
+    let answer = decline(&mut ledger[a..a + Ledger::RECORD], holder);
+    set_clock(ledger, time);
+    Decided::with(answer, length)
+}
+
+pub fn decide(
+    ledger: &mut [u8],
+    time: u64,
+    reference: &[u8; 32],
+    client: &[u8; 16],
+    yes: bool,
+    holder: u64,
+    fresh: &[u8; 32],
+    out: &mut [u8],
+) -> Decided
+    ensures { λ r. ⌜ leftBoth r (now (ledger .exit)) (now (out .exit)) ≡ decide (now (ledger .entry)) time (record { reference = now (reference .entry); client = now (client .entry); yes = yes; holder = holder; fresh = now (fresh .entry) }) (now (out .entry)) ⌝ }
+{
+    let Soundness::Sound(_) = soundness::check(ledger) else {
+        return Decided::refused(Refusal::LedgerUnsound);
+    };
+    let Timing::Timely = ledger::clock::check(ledger, time) else {
+        return Decided::refused(Refusal::TimeWrong);
+    };
+    let Told::Passed = check::room(out) else {
+        return Decided::refused(Refusal::OutputShort);
+    };
+    let Found::At(k) = ledger::find::reference(ledger, reference, client) else {
+        return Decided::refused(Refusal::NoReference);
+    };
+    let Life::Alive = check_life(ledger::record::at(ledger, k), time) else {
+        return Decided::refused(Refusal::RecordExpired);
+    };
+    let Told::Passed = check::given(holder) else {
+        return Decided::refused(Refusal::NoHolder);
+    };
+    let Told::Passed = check_fresh(ledger, yes, fresh) else {
+        return Decided::refused(Refusal::FreshTaken);
+    };
+    if yes {
+        return consent(ledger, k, time, holder, fresh, out);
+    }
+    refuse(ledger, k, time, holder, out)
+}

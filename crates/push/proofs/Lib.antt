@@ -1,0 +1,2 @@
+-- The laws of push.
+mod Pushing

@@ -1,0 +1,2 @@
+-- The laws of start.
+mod Starting

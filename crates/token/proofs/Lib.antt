@@ -1,0 +1,2 @@
+-- The laws of token.
+mod Redeeming

@@ -1,0 +1,108 @@
+// Token: the program redeems its code, with the secret whose hash it left, for a token tied to its key.
+// It rests on desk, which has its definition and its answers, on soundness, ledger, clients, forms and s256, and serves demands 1 and 2.
+ghost use mathlib.Core.Path.{_≡_};
+ghost use Prim.Native.Nat.{_+_, _<_};
+ghost use Rattle.ledger.specs.Limits.{tokenLifetime, clockLimit};
+ghost use Rattle.ledger.specs.Fields.{rec, slots, withRecord, withClock};
+ghost use Rattle.ledger.specs.Write.{redeemed};
+ghost use Rattle.desk.specs.Answers.{answerOf};
+ghost use Rattle.desk.specs.Push.{left};
+ghost use Rattle.desk.specs.Token.{token};
+use clients::known::Known;
+use clients::table::Table;
+use desk::answer::Answer;
+use desk::answer::Refusal;
+use desk::check;
+use desk::check::Told;
+use forms::Challenge;
+use forms::Form;
+use forms::Verifier;
+use ledger::clock::Timing;
+use ledger::clock::set_clock;
+use ledger::field::Field;
+use ledger::find::Found;
+use ledger::fresh::Freshness;
+use ledger::limit::Ledger;
+use ledger::limit::Token;
+use ledger::record::Life;
+use ledger::record::at;
+use ledger::record::check_life;
+use ledger::sound::Soundness;
+use octets::part::cut;
+use s256::Match;
+
+// Writes a redemption into its record, and answers what the record then has.
+fn redeem(r: &mut [u8], expiry: u64, fresh: &[u8; 32], key: &[u8; 32]) -> Answer
+    ensures { λ a. ⌜ (now (r .exit) ≡ redeemed expiry (now (fresh .entry)) (now (key .entry)) (now (r .entry))) × (a ≡ answerOf (now (r .exit))) ⌝ }
+{
+    ledger::write::redeemed(r, expiry, fresh, key);
+    Answer::of(r)
+}
+
+// Lends record k to be written, then writes the clock.
+fn redeem_at(ledger: &mut [u8], k: usize, time: u64, fresh: &[u8; 32], key: &[u8; 32]) -> Answer
+    requires { ⌜ (k < slots (now ledger)) × (time < clockLimit) ⌝ }
+    ensures { λ a. ⌜ left a (now (ledger .exit)) ≡ left (answerOf (redeemed (time + tokenLifetime) (now (fresh .entry)) (now (key .entry)) (rec (now (ledger .entry)) k))) (withClock time (withRecord (now (ledger .entry)) k (redeemed (time + tokenLifetime) (now (fresh .entry)) (now (key .entry)) (rec (now (ledger .entry)) k)))) ⌝ }
+{
+    let a = Ledger::HEAD + k * Ledger::RECORD;
+    let answer = redeem(
+        &mut ledger[a..a + Ledger::RECORD],
+        time + Token::LIFETIME,
+        fresh,
+        key,
+    );
+    set_clock(ledger, time);
+    answer
+}
+
+pub fn token(
+    ledger: &mut [u8],
+    time: u64,
+    table: &[u8],
+    client: &[u8; 16],
+    key: &[u8; 32],
+    presented: &[u8; 32],
+    code: &[u8; 32],
+    verifier: &[u8],
+    fresh: &[u8; 32],
+) -> Answer
+    ensures { λ r. ⌜ left r (now (ledger .exit)) ≡ token (now (ledger .entry)) time (now (table .entry)) (record { client = now (client .entry); key = now (key .entry); presented = now (presented .entry); code = now (code .entry); verifier = now (verifier .entry); fresh = now (fresh .entry) }) ⌝ }
+{
+    let Soundness::Sound(_) = soundness::check(ledger) else {
+        return Answer::refused(Refusal::LedgerUnsound);
+    };
+    let Timing::Timely = ledger::clock::check(ledger, time) else {
+        return Answer::refused(Refusal::TimeWrong);
+    };
+    let Table::Sound = clients::table::check(table) else {
+        return Answer::refused(Refusal::TableUnsound);
+    };
+    let Known::At(_) = clients::known::find(table, client, key) else {
+        return Answer::refused(Refusal::ClientUnknown);
+    };
+    let Told::Passed = check::key(presented) else {
+        return Answer::refused(Refusal::NoKey);
+    };
+    let Form::Well = Verifier::check(verifier) else {
+        return Answer::refused(Refusal::IllFormed);
+    };
+    let Found::At(k) = ledger::find::code(ledger, code, client) else {
+        return Answer::refused(Refusal::NoCode);
+    };
+    let Told::Passed = check::unredeemed(at(ledger, k)) else {
+        return Answer::refused(Refusal::CodeRedeemed);
+    };
+    let Life::Alive = check_life(at(ledger, k), time) else {
+        return Answer::refused(Refusal::RecordExpired);
+    };
+    let Match::Same = s256::matches(
+        verifier,
+        cut(at(ledger, k), Field::CHALLENGE, Challenge::LENGTH),
+    ) else {
+        return Answer::refused(Refusal::VerifierDiffers);
+    };
+    let Freshness::Fresh = ledger::fresh::check(ledger, fresh) else {
+        return Answer::refused(Refusal::FreshTaken);
+    };
+    redeem_at(ledger, k, time, fresh, presented)
+}
