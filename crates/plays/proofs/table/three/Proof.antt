@@ -1,0 +1,27 @@
+use Prim.Native.Nat.{_≤_, _-_}
+use Rattle.plays.proofs.table.three.Statement.{statement}
+use borrow.Author.Needs.{needs}
+use lib.ListN.{length}
+use mathlib.Core.Path.{_≡_}
+use Rattle.plays.proofs.table.three.Tie as tie
+
+abbrev Inv-loop : tie.InvT-loop
+Inv-loop text t₀ i₀ t i = (i ≤ 192) × (length t ≡ 192)
+
+abbrev μ-loop : tie.MeasureT-loop
+μ-loop text t₀ i₀ t i = 192 - i
+
+pub three-spec : {M : Type 1} → statement M
+three-spec =
+    tie.close
+    (tie.spec
+    Inv-loop
+    μ-loop
+    (search needs)
+    (search needs)
+    (search needs)
+    (search needs)
+    (search needs)
+    (search needs)
+    (λ c. search needs)
+    (search needs))
