@@ -1,38 +1,30 @@
 -- What is easy to get wrong, shown right. Assumes nothing.
 use Prim.Native.Nat.{ℕ, _+_, _<_}
-use native.Mathlib.Omega.{arith}
 use mathlib.Core.Path.{_≡_, refl, sym, ap, _∙_}
 use mathlib.Core.Logic.{_≢_, _⊎_, inr}
 use mathlib.Core.Bool.{Bool, true, false, not, _&&_, cond, false≢true}
 use mathlib.Core.List.{List, [], _∷_}
 use borrow.Author.Tests.{eqb-true, eq-eqb, not-true}
 use Rattle.octets.specs.Lists.{some}
-use Rattle.octets.proofs.Tests.{both, false-of}
+use Rattle.octets.proofs.Tests.{both, both-true, false-of}
 use Rattle.octets.proofs.Parts.{differ-of}
 use Rattle.ledger.specs.Limits.{tokenLifetime}
-use Rattle.ledger.specs.Fields.{records, rec, slots, state, stateNumber, inState, client, value, boundKey, withRecord, withClock}
+use Rattle.ledger.specs.Fields.{records, rec, slots, state, stateNumber, inState, client, value, boundKey}
 use Rattle.ledger.specs.Sound.{sound}
 use Rattle.ledger.specs.Checks.{isCode}
 use Rattle.ledger.specs.declared.state.State.the-variants.{Consented, Redeemed}
-use Rattle.ledger.proofs.Records.{rec-length, slots-with, rec-same}
 use Rattle.upkeep.specs.View.{slotOf}
-use Rattle.upkeep.proofs.Heads.{slots-clock, rec-clock}
 use Rattle.upkeep.proofs.Says.{of-sound}
 use Rattle.upkeep.proofs.Searches.{first-in, none-found, alone, code-holds, code-first, code-says}
-use Rattle.upkeep.proofs.Written.{redeemed-wrote}
 use Rattle.desk.specs.Answers.{numberOf, done}
 use Rattle.desk.specs.Checks.{Check, stopped, first}
 use Rattle.desk.specs.Requests.{TokenRequest, ResourceRequest}
-use Rattle.desk.specs.Push.{Outcome}
-use Rattle.desk.specs.Token.{codeAt, tokenRecord, tokenAt, tokenChecks}
+use Rattle.desk.specs.Token.{codeAt, tokenRecord, tokenChecks}
 use Rattle.desk.specs.Resource.{tokenPlace, resourceChecks}
 use Rattle.desk.specs.declared.answer.Refusal.{Refusal}
 use Rattle.desk.specs.declared.answer.Refusal.the-variants.{NoCode, CodeRedeemed, KeyDiffers}
-use Rattle.desk.proofs.Written.{timely-lt}
-use Rattle.conduct.proofs.Turns.{numberBy, number-refused}
-use Rattle.conduct.proofs.Rows.{token-cases}
+use Rattle.conduct.proofs.Turns.{numberBy}
 use Rattle.conduct.proofs.Alone.{push-unchanged, decide-unchanged, token-unchanged, resource-unchanged, sweep-unchanged}
-use Rattle.conduct.proofs.Facts.{token-facts}
 use Rattle.conduct.proofs.Readings.{place-named}
 use Rattle.history.specs.Runs.{Call, push, decide, token, resource, sweep, TypedToken, step}
 use Rattle.history.proofs.Steps.{checksOf}
@@ -40,6 +32,7 @@ use Rattle.cases.specs.Order.{gives, passes}
 use Rattle.cases.specs.Cases.{answers}
 use Rattle.cases.specs.Reminders.{comesTo, Reminders}
 use Rattle.cases.proofs.Order.{conditionOf, number-is}
+use Rattle.cases.proofs.Times.{Stands, token-wrote, token-leaves}
 
 -- ---- where the turn of a row comes and its condition holds, its number is the answer
 
@@ -86,38 +79,23 @@ other-client l t table q k e h u v n =
 
 -- ---- the second use
 
--- a record in state 3 that the code finds
-record Used (q : TokenRequest) (m : List ℕ) : Type 0 where
-  pub k : ℕ
-  pub inside : k < slots m
-  pub passes-code : isCode (q .code) (q .client) (rec m k) ≡ true
-  pub state-is : state (rec m k) ≡ stateNumber Redeemed
+-- a record in state 3 that this code finds
+abbrev usedBy : TokenRequest → List ℕ → Bool
+usedBy q r = isCode (q .code) (q .client) r && inState Redeemed r
 
 module _ (l : List ℕ) (a : ℕ) (table : List ℕ) (q : TokenRequest) (y : TypedToken a table q) where
-  used-after : answers (l, token a table q) ≡ done → Used q (step l (token a table q) .after)
-  unfolding step tokenAt tokenRecord slotOf
+  used-after : answers (l, token a table q) ≡ done → Stands (usedBy q) (a + tokenLifetime) (step l (token a table q) .after)
+  unfolding slotOf
   used-after =
-      token-cases l a table q (λ (o : Outcome). o .answer .number ≡ done → Used q (o .ledger)) (λ why u e. absurd (number-refused why e))
-      (λ ok e.
-      let f = token-facts l a table q ok in
-      let k = codeAt l q in
-      let r = tokenRecord a q (rec l k) in
+      token-leaves l a table q y (usedBy q)
+      (λ f.
+      let r = tokenRecord a q (rec l (codeAt l q)) in
+      let w = token-wrote l a table q y f in
       let found = first-in (isCode (q .code) (q .client)) l (f .there) in
-      let b = timely-lt l a (f .in-time) in
-      let w =
-      redeemed-wrote (a + tokenLifetime) (q .fresh) (q .presented) (rec l k) (omega arith) (y .fresh .long) (y .presented .long)
-      (rec-length l k (found .inside)) in
-      let was = code-says (q .code) (q .client) (rec l k) .0 (found .passes) in
-      let m = withRecord l k r in
-      let is : rec (withClock a m) k ≡ r = rec-clock a m k ∙ rec-same l k r (w .long) (found .inside) in
-      record {
-        k = k;
-        inside = rw (slots-clock a m, slots-with l k r (w .long) (found .inside)) (found .inside);
-        passes-code =
-            ap (isCode (q .code) (q .client)) is
-            ∙ code-says (q .code) (q .client) r .1 (inr (w .state-is), (w .value-is ∙ was .1 .0, w .client-is ∙ was .1 .1));
-        state-is = ap state is ∙ w .state-is;
-      })
+      let was = code-says (q .code) (q .client) (rec l (codeAt l q)) .0 (found .passes) in
+      both-true (isCode (q .code) (q .client) r) (inState Redeemed r)
+      (code-says (q .code) (q .client) r .1 (inr (w .state-is), (w .value-is ∙ was .1 .0, w .client-is ∙ was .1 .1)))
+      (eq-eqb (state r) 3 (w .state-is)))
 
 second-use : (l : List ℕ) (a : ℕ) (table : List ℕ) (q : TokenRequest) → TypedToken a table q → answers (l, token a table q) ≡ done
     → (t : ℕ) (again : List ℕ) (w : TokenRequest) → w .code ≡ q .code → w .client ≡ q .client
@@ -128,10 +106,11 @@ second-use l a table q y ok t again w c d e =
     let m = step l (token a table q) .after in
     let s = twice (sound m) (both (not (not (sound m))) _ e .0) in
     let u = used-after l a table q y ok in
-    let p : isCode (w .code) (w .client) (rec m (u .k)) ≡ true = rw (c, d) (u .passes-code) in
+    let (x, z) = both (isCode (q .code) (q .client) (rec m (u .k))) (inState Redeemed (rec m (u .k))) (u .passes) in
+    let p : isCode (w .code) (w .client) (rec m (u .k)) ≡ true = rw (c, d) x in
     let at = place-named (isCode (w .code) (w .client)) m (u .k) (code-first m s (w .code) (w .client) (u .k) (u .inside) p) in
     comes m (token t again w) CodeRedeemed e
-    (ap (λ (k : ℕ). inState Redeemed (rec m k)) at ∙ eq-eqb (state (rec m (u .k))) 3 (u .state-is))
+    (ap (λ (k : ℕ). inState Redeemed (rec m k)) at ∙ z)
 
 -- ---- the bound key, and the clock
 
