@@ -29,7 +29,7 @@ pub record Reminders : Type 0 where
       → k < slots l → (state (rec l k) ≡ stateNumber Consented) ⊎ (state (rec l k) ≡ stateNumber Redeemed)
       → value (rec l k) ≡ q .code → client (rec l k) ≢ q .client
       → answers (l, token t table q) ≡ 14
-  -- "Freeing the record at redemption: the second use would give 14 and the token would have no record.": it gives 15, at any time ..
+  -- "Freeing the record at redemption: the second use would give 14 and the token would have no record.": it gives 15, at any time
   pub second-use : (l : List ℕ) (a : ℕ) (table : List ℕ) (q : TokenRequest) → TypedToken a table q → answers (l, token a table q) ≡ done
       → (t : ℕ) (again : List ℕ) (w : TokenRequest) → w .code ≡ q .code → w .client ≡ q .client
       → comesTo CodeRedeemed (tokenChecks (step l (token a table q) .after) t again w (codeAt (step l (token a table q) .after) w)) ≡ true
