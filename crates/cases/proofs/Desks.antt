@@ -26,17 +26,18 @@ use Rattle.conduct.proofs.Rows.{push-cases, sweep-cases}
 use Rattle.conduct.proofs.Facts.{push-facts}
 use Rattle.cases.proofs.Times.{push-wrote}
 use Rattle.cases.specs.Table.{shortest}
-use Rattle.cases.specs.Desks.{Seen, Desk, Allowed, Kind, pushes, decides, sweeps, kindOf, Caught, Refuses, Answers, Idles, outputIn, Withholds, Feigns, countsIn, InventsCounts, InventsNumbers, ShutOut}
+use Rattle.cases.specs.Desks.{Seen, Desk, Allowed, Kind, pushes, decides, sweeps, kindOf, before, Caught, Refuses, Answers, Idles, outputIn, Withholds, Feigns, countsIn, InventsCounts, InventsNumbers, ShutOut}
 use Rattle.cases.proofs.Inputs.{table, text43, asking, room, code, allowing, typed-push}
-use Rattle.cases.proofs.Tries.{runOf, callAt, ledgerOf, sweptFirst, otherFirst, computed, later, of-kind, typed-call, typed-run, typed-other}
+use Rattle.cases.proofs.Tries.{soon, one-before, runOf, callAt, ledgerOf, sweptFirst, otherFirst, computed, later, of-kind, typed-call, typed-run, typed-other}
 
 -- ---- catching
 
 abbrev DiffersOn : Desk → List Call → Call → Type 0
 DiffersOn desk made c = (o : Seen) → Allowed (last (started 2) made) c o → desk made (last (started 2) made) c ≢ o
 
-catch : (k : Kind) (desk : Desk) (made : List Call) (c : Call) → AllTyped (made ++ (c ∷ [])) → 1 ≤ length made → kindOf c ≡ k → DiffersOn desk made c → Caught k desk
-catch k desk made c y n i d =
+catch : (k : Kind) (desk : Desk) (made : List Call) (c : Call) → AllTyped (made ++ (c ∷ [])) → 1 ≤ length made → length made ≤ before k
+    → kindOf c ≡ k → DiffersOn desk made c → Caught k desk
+catch k desk made c y n m i d =
     record {
       slots = 2;
       least = lit≤ tt;
@@ -45,16 +46,17 @@ catch k desk made c y n i d =
       call = c;
       typed = y;
       second = n;
+      soon = m;
       of-kind = i;
       differs = d;
     }
 
 -- on the call that is accepted, and on the one that comes too early
 catch-accepted : (k : Kind) (desk : Desk) → DiffersOn desk (runOf k) (callAt 1030 k) → Caught k desk
-catch-accepted k desk d = catch k desk (runOf k) (callAt 1030 k) (typed-run k) (later k) (of-kind 1030 k) d
+catch-accepted k desk d = catch k desk (runOf k) (callAt 1030 k) (typed-run k) (later k) (soon k) (of-kind 1030 k) d
 
 catch-early : (k : Kind) (desk : Desk) → DiffersOn desk sweptFirst (callAt 4 k) → Caught k desk
-catch-early k desk d = catch k desk sweptFirst (callAt 4 k) (lit≤ tt, (typed-call 4 (lit≤ tt) k, tt)) (lit≤ tt) (of-kind 4 k) d
+catch-early k desk d = catch k desk sweptFirst (callAt 4 k) (lit≤ tt, (typed-call 4 (lit≤ tt) k, tt)) (lit≤ tt) (one-before k) (of-kind 4 k) d
 
 -- what the desk would have to show, were its outcome allowed
 shows : {A : Type 0} (f : Seen → A) (desk : Desk) (made : List Call) (c : Call) (o : Seen) → Allowed (last (started 2) made) c o
@@ -91,7 +93,7 @@ idler k desk r =
     (sym (shows (λ (s : Seen). s .after) desk (runOf k) (callAt 1030 k) o a e) ∙ r (runOf k) (ledgerOf k) (callAt 1030 k) (later k) (of-kind 1030 k)))
 
 feigner : (k : Kind) (desk : Desk) → Feigns k desk → Caught k desk
-feigner k desk f = ⊎-elim (λ r. refuser k desk r) (λ s. ⊎-elim (λ c. constant (f .a) k desk c) (λ i. idler k desk i) s) (f .then)
+feigner k desk f = ⊎-elim (λ r. refuser k desk r) (λ s. ⊎-elim (λ c. constant (f .madeUp) k desk c) (λ i. idler k desk i) s) (f .then)
 
 withholder : (desk : Desk) → Withholds desk → Caught decides desk
 withholder desk r =
@@ -120,16 +122,16 @@ counts : (desk : Desk) → InventsCounts desk → Caught sweeps desk
 counts desk r =
     invented sweeps desk (λ (s : Seen). countsIn (s .answer) .pushed) sweptFirst (runOf sweeps) (sweep 2000) 0 1 (λ e. omega arith)
     (ap (λ (f : Freed). f .pushed) (r sweptFirst (runOf sweeps) (last (started 2) sweptFirst) (ledgerOf sweeps) 2000 (lit≤ tt) (lit≤ tt)))
-    (catch sweeps desk sweptFirst (sweep 2000) (lit≤ tt, (lit≤ tt, tt)) (lit≤ tt) refl)
-    (catch sweeps desk (runOf sweeps) (sweep 2000) (typed-push 1000 (lit≤ tt), (lit≤ tt, tt)) (lit≤ tt) refl)
+    (catch sweeps desk sweptFirst (sweep 2000) (lit≤ tt, (lit≤ tt, tt)) (lit≤ tt) (lit≤ tt) refl)
+    (catch sweeps desk (runOf sweeps) (sweep 2000) (typed-push 1000 (lit≤ tt), (lit≤ tt, tt)) (lit≤ tt) (lit≤ tt) refl)
     (computed .frees-none) (computed .frees-one)
 
 numbers : (desk : Desk) → InventsNumbers desk → Caught pushes desk
 numbers desk r =
     invented pushes desk (λ (s : Seen). grantOf (s .answer)) sweptFirst otherFirst (callAt 1030 pushes) 1 2 (λ e. omega arith)
     (r sweptFirst otherFirst (last (started 2) sweptFirst) (last (started 2) otherFirst) 1030 table (asking 4 text43 shortest) (lit≤ tt) (lit≤ tt))
-    (catch pushes desk sweptFirst (callAt 1030 pushes) (lit≤ tt, (typed-push 1030 (lit≤ tt), tt)) (lit≤ tt) refl)
-    (catch pushes desk otherFirst (callAt 1030 pushes) (typed-other, (typed-push 1030 (lit≤ tt), tt)) (lit≤ tt) refl)
+    (catch pushes desk sweptFirst (callAt 1030 pushes) (lit≤ tt, (typed-push 1030 (lit≤ tt), tt)) (lit≤ tt) (lit≤ tt) refl)
+    (catch pushes desk otherFirst (callAt 1030 pushes) (typed-other, (typed-push 1030 (lit≤ tt), tt)) (lit≤ tt) (lit≤ tt) refl)
     (computed .first-number) (computed .second-number)
 
 -- ---- on every input

@@ -10,3 +10,4 @@ pub mod Table
 pub mod Outcomes
 pub mod Tries
 pub mod Desks
+pub mod Reminders

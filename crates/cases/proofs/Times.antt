@@ -18,7 +18,7 @@ use Rattle.ledger.specs.Fields.{records, rec, slots, nextNumber, expiry, withRe
 use Rattle.ledger.specs.Sound.{sound}
 use Rattle.ledger.specs.Checks.{isFree, isReference, isCode, isToken, expired}
 use Rattle.ledger.proofs.Records.{rec-length, slots-with, rec-same}
-use Rattle.upkeep.specs.View.{slotOf, pushedSlot}
+use Rattle.upkeep.specs.View.{slotOf, pushedSlot, redeemedSlot}
 use Rattle.upkeep.proofs.Heads.{slots-clock, rec-clock, slots-next, rec-next, next-left}
 use Rattle.upkeep.proofs.Says.{of-sound}
 use Rattle.upkeep.proofs.Searches.{First, first-in, reference-first, code-first, token-first, reference-says, code-says, token-says}
@@ -33,7 +33,7 @@ use Rattle.desk.specs.declared.answer.Refusal.the-variants.{LedgerUnsound, Reco
 use Rattle.desk.proofs.Written.{decide-yes, timely-lt}
 use Rattle.conduct.proofs.Turns.{number-refused}
 use Rattle.conduct.proofs.Rows.{push-cases, decide-cases, token-cases}
-use Rattle.conduct.proofs.Facts.{PushFacts, push-facts, decide-facts, token-facts}
+use Rattle.conduct.proofs.Facts.{PushFacts, push-facts, decide-facts, TokenFacts, token-facts}
 use Rattle.conduct.proofs.Readings.{place-named}
 use Rattle.history.specs.Runs.{Call, push, decide, token, resource, TypedPush, TypedDecide, TypedToken, step, numberIn}
 use Rattle.history.proofs.Steps.{checksOf}
@@ -42,7 +42,7 @@ use Rattle.cases.proofs.Order.{numberIf, else-passes, else-answers}
 
 -- ---- what the first call leaves: a record that the second finds, good until a time
 
-record Stands (q : List ℕ → Bool) (until : ℕ) (m : List ℕ) : Type 0 where
+pub record Stands (q : List ℕ → Bool) (until : ℕ) (m : List ℕ) : Type 0 where
   pub k : ℕ
   pub inside : k < slots m
   pub passes : q (rec m k) ≡ true
@@ -123,22 +123,36 @@ module _ (l : List ℕ) (t : ℕ) (d : DecideRequest) (out : List ℕ) (y : Type
       (code-says (d .fresh) (d .client) r .1 (inl (a .state-is), (a .value-is, a .client-is ∙ was .1 .1))) (a .expiry-is)))
 
 module _ (l : List ℕ) (t : ℕ) (table : List ℕ) (q : TokenRequest) (y : TypedToken t table q) where
-  token-stands : numberIn (step l (token t table q) .answer) ≡ done
-      → Stands (isToken (q .fresh)) (t + tokenLifetime) (step l (token t table q) .after)
-  unfolding step tokenAt tokenRecord slotOf
-  token-stands =
-      token-cases l t table q (λ (o : Outcome). o .answer .number ≡ done → Stands (isToken (q .fresh)) (t + tokenLifetime) (o .ledger))
+  abbrev pub tokenOne : List ℕ
+  tokenOne = tokenRecord t q (rec l (codeAt l q))
+
+  pub token-wrote : TokenFacts l t table q
+      → Wrote (rec l (codeAt l q)) tokenOne (redeemedSlot (t + tokenLifetime) (q .fresh) (q .presented) (slotOf (rec l (codeAt l q))))
+  unfolding tokenRecord
+  token-wrote f =
+      let k = codeAt l q in
+      let b = timely-lt l t (f .in-time) in
+      redeemed-wrote (t + tokenLifetime) (q .fresh) (q .presented) (rec l k) (omega arith) (y .fresh .long) (y .presented .long)
+      (rec-length l k (first-in (isCode (q .code) (q .client)) l (f .there) .inside))
+
+  -- whatever the record passes
+  pub token-leaves : (test : List ℕ → Bool) → (TokenFacts l t table q → test tokenOne ≡ true) → numberIn (step l (token t table q) .answer) ≡ done
+      → Stands test (t + tokenLifetime) (step l (token t table q) .after)
+  unfolding step tokenAt
+  token-leaves test g =
+      token-cases l t table q (λ (o : Outcome). o .answer .number ≡ done → Stands test (t + tokenLifetime) (o .ledger))
       (λ why u e. absurd (number-refused why e))
       (λ ok e.
       let f = token-facts l t table q ok in
-      let k = codeAt l q in
-      let r = tokenRecord t q (rec l k) in
-      let found = first-in (isCode (q .code) (q .client)) l (f .there) in
-      let b = timely-lt l t (f .in-time) in
-      let a =
-      redeemed-wrote (t + tokenLifetime) (q .fresh) (q .presented) (rec l k) (omega arith) (y .fresh .long) (y .presented .long)
-      (rec-length l k (found .inside)) in
-      written-stands l t k r (isToken (q .fresh)) (t + tokenLifetime) (found .inside) (a .long) (token-says (q .fresh) r .1 (a .state-is, a .token-is)) (a .expiry-is))
+      let a = token-wrote f in
+      written-stands l t (codeAt l q) tokenOne test (t + tokenLifetime) (first-in (isCode (q .code) (q .client)) l (f .there) .inside) (a .long) (g f)
+      (a .expiry-is))
+
+  token-stands : numberIn (step l (token t table q) .answer) ≡ done
+      → Stands (isToken (q .fresh)) (t + tokenLifetime) (step l (token t table q) .after)
+  token-stands =
+      token-leaves (isToken (q .fresh))
+      (λ f. let a = token-wrote f in token-says (q .fresh) tokenOne .1 (a .state-is, a .token-is))
 
 -- ---- the second call finds it, and goes by the time
 

@@ -37,7 +37,7 @@ use Rattle.desk.specs.Sweep.{sweepChecks, sweep as doSweep}
 use Rattle.ledger.specs.Sweep.{sweptRecord, sweptTo, swept, due, freedOf, freed}
 use Rattle.history.specs.Runs.{Call, push, decide, token, resource, sweep, TypedPush, step, numberIn, started, last, Typed, AllTyped, grantOf}
 use Rattle.cases.specs.Table.{shortest}
-use Rattle.cases.specs.Desks.{Kind, pushes, decides, redeems, reads, sweeps, kindOf, outputIn, countsIn}
+use Rattle.cases.specs.Desks.{Kind, pushes, decides, redeems, reads, sweeps, kindOf, before, outputIn, countsIn}
 use Rattle.cases.proofs.Inputs.{table, secret, text43, program, programKey, asking, room, code, allowing, redeeming, reading, array, typed-push, typed-decide, typed-token, typed-resource}
 
 abbrev pub asks : Call
@@ -111,6 +111,20 @@ later decides = lit≤ tt
 later redeems = lit≤ tt
 later reads = lit≤ tt
 later sweeps = lit≤ tt
+
+pub soon : (k : Kind) → length (runOf k) ≤ before k
+soon pushes = lit≤ tt
+soon decides = lit≤ tt
+soon redeems = lit≤ tt
+soon reads = lit≤ tt
+soon sweeps = lit≤ tt
+
+pub one-before : (k : Kind) → 1 ≤ before k
+one-before pushes = lit≤ tt
+one-before decides = lit≤ tt
+one-before redeems = lit≤ tt
+one-before reads = lit≤ tt
+one-before sweeps = lit≤ tt
 
 pub of-kind : (t : ℕ) (k : Kind) → kindOf (callAt t k) ≡ k
 of-kind t pushes = refl

@@ -43,6 +43,14 @@ kindOf (token t table q) = redeems
 kindOf (resource t q) = reads
 kindOf (sweep t) = sweeps
 
+-- the calls made before one of this kind, at most: one, and before a token or a reading the calls of its grant
+abbrev pub before : Kind → ℕ
+before pushes = 1
+before decides = 1
+before redeems = 2
+before reads = 3
+before sweeps = 1
+
 -- caught: a run of calls, at least one, and one more call of this kind on which the desk differs from every outcome allowed
 pub record Caught (k : Kind) (desk : Desk) : Type 0 where
   pub slots : ℕ
@@ -52,6 +60,7 @@ pub record Caught (k : Kind) (desk : Desk) : Type 0 where
   pub call : Call
   pub typed : AllTyped (made ++ (call ∷ []))
   pub second : 1 ≤ length made
+  pub soon : length made ≤ before k
   pub of-kind : kindOf call ≡ k
   pub differs : (o : Seen) → Allowed (last (started slots) made) call o → desk made (last (started slots) made) call ≢ o
 
@@ -81,8 +90,8 @@ Withholds desk =
 -- "one that serves the first call and then feigns": it refuses, or gives an answer it has made up, or pretends to have written
 pub record Feigns (k : Kind) (desk : Desk) : Type 0 where
   pub serves : (l : List ℕ) (c : Call) → Allowed l c (desk [] l c)
-  pub a : Said
-  pub then : Refuses k desk ⊎ (Answers a k desk ⊎ Idles k desk)
+  pub madeUp : Said
+  pub then : Refuses k desk ⊎ (Answers madeUp k desk ⊎ Idles k desk)
 
 -- "one whose sweep counts .. are invented": they are the same whatever stands in the ledger
 abbrev pub countsIn : Said → Freed

@@ -4,3 +4,4 @@ pub mod Cases
 pub mod Table
 pub mod Outcomes
 pub mod Desks
+pub mod Reminders
