@@ -7,6 +7,8 @@ use lib.Dec.{eqb, leb, ltb}
 use lib.ListN.{length, getD, take, drop}
 use Rattle.octets.specs.Numbers.{num}
 use Rattle.octets.specs.Parts.{part}
+use Rattle.forms.specs.Limits.{challengeLength}
+use Rattle.clients.specs.Limits.{clientSize}
 use Rattle.frames.specs.declared.kind.Kind.{Kind}
 use Rattle.frames.specs.declared.kind.Kind.the-variants.{Start, Push, Decide, Token, Resource, Sweep, Client, NoFrame}
 use Rattle.frames.specs.Limits.{lineMost}
@@ -28,7 +30,7 @@ start = row Start 0 (1 ∷ []) false
 
 -- "01 now(8) client(16) auth key(32) scope(4) challenge(43) fresh(32) redirect"
 abbrev pub push : Row
-push = row Push 1 (8 ∷ 16 ∷ 32 ∷ 4 ∷ 43 ∷ 32 ∷ []) true
+push = row Push 1 (8 ∷ 16 ∷ 32 ∷ 4 ∷ challengeLength ∷ 32 ∷ []) true
 
 -- "02 now client reference(32) yes(1, 00 or 01) holder(8) fresh"
 abbrev pub decide : Row
@@ -48,7 +50,7 @@ sweep = row Sweep 5 (8 ∷ []) false
 
 -- "06 a client record(64), appended to the table"
 abbrev pub client : Row
-client = row Client 6 (64 ∷ []) false
+client = row Client 6 (clientSize ∷ []) false
 
 abbrev pub rows : List Row
 rows = start ∷ push ∷ decide ∷ token ∷ resource ∷ sweep ∷ client ∷ []

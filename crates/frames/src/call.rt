@@ -18,6 +18,7 @@ use super::kind::Token;
 use desk::answer::Answer;
 use desk::answer::Decided;
 use desk::answer::Swept;
+use forms::Challenge;
 use octets::number::read32;
 use octets::number::read64;
 use octets::part::copy;
@@ -56,7 +57,7 @@ pub fn push(f: &[u8], ledger: &mut [u8], table: &[u8]) -> Answer
         &client,
         &key,
         read32(from(f, Push::SCOPE)),
-        cut(f, Push::CHALLENGE, 43),
+        cut(f, Push::CHALLENGE, Challenge::LENGTH),
         from(f, Push::WIDTH),
         &fresh,
     )

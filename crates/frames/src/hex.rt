@@ -67,7 +67,7 @@ fn pair_at(line: &[u8], i: usize) -> u8
 }
 
 // The bytes of a line of hexadecimal, at the front.
-pub fn decode(line: &[u8]) -> [u8; 320]
+pub fn decode(line: &[u8]) -> [u8; Frame::MOST]
     requires { ⌜ (isHex (now line) ≡ true) × (length (now line) ≤ lineMost) ⌝ }
     ensures { λ r. ⌜ take (length (now (line .entry)) / 2) r ≡ decoded (now (line .entry)) ⌝ }
 {
