@@ -29,13 +29,13 @@ pub struct Used {
     pub count: usize,
 }
 
-fn refuse_start(used: usize, out: &mut [u8]) -> Used
+fn refuse_start(kept: usize, out: &mut [u8]) -> Used
     requires { ⌜ length (now out) ≡ answerMost ⌝ }
-    ensures { λ r. ⌜ (r .used ≡ used) × ((r .count ≤ answerMost) × (take (r .count) (now (out .exit)) ≡ numberBytes (numberOf LedgerUnsound))) ⌝ }
+    ensures { λ r. ⌜ (r .used ≡ kept) × ((r .count ≤ answerMost) × (take (r .count) (now (out .exit)) ≡ numberBytes (numberOf LedgerUnsound))) ⌝ }
 {
     let count = write_number(out, Refusal::LedgerUnsound.number());
     Used {
-        used: used,
+        used: kept,
         count: count,
     }
 }
