@@ -1,0 +1,69 @@
+-- Laws of an answer's bytes. Assumes nothing.
+use Prim.Native.Nat.{ℕ, _+_, _/_, _%_, _≤_, _<_}
+use native.Mathlib.Omega.{arith}
+use mathlib.Core.Path.{_≡_, refl, sym, ap, _∙_}
+use mathlib.Core.List.{List, [], _∷_, _++_, append-assoc}
+use lib.ListN.{length, take, drop, length-append, length-take, length-drop}
+use lib.Seq.{take-all, take-append-add, take-at, drop-append-le}
+use Rattle.octets.specs.Numbers.{digits}
+use Rattle.octets.specs.Parts.{blank, put, part}
+use Rattle.octets.proofs.Parts.{put-splice, part-length}
+use Rattle.desk.specs.declared.answer.Answer.{Answer}
+use Rattle.desk.specs.declared.answer.Decided.{Decided}
+use Rattle.desk.specs.declared.answer.Swept.{Swept}
+use Rattle.desk.specs.Push.{Outcome, left}
+use Rattle.desk.specs.Limits.{outputLeast}
+use Rattle.desk.specs.Requests.{DecideRequest}
+use Rattle.desk.specs.Decide.{Decision, leftBoth, decide}
+use Rattle.desk.specs.Sweep.{Sweeping, leftSwept}
+use Rattle.frames.specs.Answers.{answerBytes, decidedBytes, sweptBytes}
+use Rattle.frames.specs.Serve.{Written, written, ofOutcome, ofDecision, ofSweeping}
+
+-- two bytes hold a number's lowest sixteen bits
+pub short-digits : (n : ℕ) → digits 2 (n % 65536) ≡ digits 2 n
+unfolding digits
+short-digits n =
+    let a : n % 65536 / 256 % 256 ≡ n / 256 % 256 = omega arith in
+    let b : n % 65536 % 256 ≡ n % 256 = omega arith in
+    rw (a, b)
+
+-- what is put behind the first a bytes
+pub put-front : (l : List ℕ) (a : ℕ) (xs y : List ℕ) → a + length xs ≤ length l → y ≡ put l a xs → take (a + length xs) y ≡ take a l ++ xs
+put-front l a xs y h e =
+    let n : length (take a l) ≡ a = simp length-take (omega arith) in
+    let k : length (take a l ++ xs) ≡ a + length xs = simp length-append (omega arith) in
+    rw (e, put-splice l a xs h, ← append-assoc (take a l) xs (drop (length xs) (drop a l))) (take-at (take a l ++ xs) (drop (length xs) (drop a l)) (a + length xs) k)
+
+-- a call's answer and ledger, as bytes
+pub by-outcome : {a : Answer} {l b : List ℕ} {o : Outcome} → left a l ≡ o → b ≡ answerBytes a → written l b ≡ ofOutcome o
+by-outcome {a} {l} {b} {o} e h = ap (written l) h ∙ ap ofOutcome e
+
+pub by-decision : (k : List ℕ) (t : ℕ) (q : DecideRequest) {a : Decided} {l b out p : List ℕ} → leftBoth a l out ≡ decide k t q p → p ≡ blank outputLeast
+    → b ≡ decidedBytes a out → written l b ≡ ofDecision (decide k t q (blank outputLeast))
+by-decision k t q {a} {l} {b} {out} {p} e g h = ap (written l) h ∙ ap ofDecision (e ∙ ap (decide k t q) g)
+
+pub by-sweeping : {a : Swept} {l b : List ℕ} {o : Sweeping} → leftSwept a l ≡ o → b ≡ sweptBytes a → written l b ≡ ofSweeping o
+by-sweeping {a} {l} {b} {o} e h = ap (written l) h ∙ ap ofSweeping e
+
+-- a part is no longer than the whole, and as long as it says where there is room
+pub part-most : (l : List ℕ) (a n : ℕ) (y : List ℕ) → y ≡ part l a n → length y ≤ length l
+part-most l a n y e = rw e (simp (length-take, length-drop) (omega arith))
+
+pub cut-length : (l : List ℕ) (a n : ℕ) (y : List ℕ) → y ≡ part l a n → a + n ≤ length l → length y ≡ n
+cut-length l a n y e h = rw e (part-length l a n h)
+
+-- the fields of an answer, one behind the other
+pub answered : (a : Answer) {x1 x2 x3 x4 x5 g h s e : List ℕ} → x1 ≡ a .number ∷ [] → g ≡ digits 8 (a .grant) → x2 ≡ x1 ++ g → h ≡ digits 8 (a .holder)
+    → x3 ≡ x2 ++ h → s ≡ digits 4 (a .scope) → x4 ≡ x3 ++ s → e ≡ digits 8 (a .expiry) → x5 ≡ x4 ++ e → x5 ≡ answerBytes a
+unfolding answerBytes
+answered a e1 hg e2 hh e3 hs e4 he e5 = rw (e5, e4, e3, e2, e1, hg, hh, hs, he)
+
+pub counted : (a : Swept) {x1 x2 x3 x4 p c r : List ℕ} → x1 ≡ a .number ∷ [] → p ≡ digits 2 (a .pushed) → x2 ≡ x1 ++ p → c ≡ digits 2 (a .consented)
+    → x3 ≡ x2 ++ c → r ≡ digits 2 (a .redeemed) → x4 ≡ x3 ++ r → x4 ≡ sweptBytes a
+unfolding sweptBytes
+counted a e1 hp e2 hc e3 hr e4 = rw (e4, e3, e2, e1, hp, hc, hr)
+
+pub redirected : (d : Decided) (redirect : List ℕ) {x1 x2 x3 y : List ℕ} {n : ℕ} → x1 ≡ answerBytes (d .answer) → x2 ≡ x1 ++ (d .length ∷ []) → n ≡ d .length
+    → y ≡ part redirect 0 n → x3 ≡ x2 ++ y → x3 ≡ decidedBytes d redirect
+unfolding decidedBytes
+redirected d redirect e1 e2 en ey e3 = rw (e3, e2, e1, ey, en)

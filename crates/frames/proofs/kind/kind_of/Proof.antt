@@ -1,0 +1,33 @@
+use Rattle.frames.proofs.Fits.{fits-long, sworn-least}
+use Rattle.frames.proofs.kind.kind_of.Statement.{statement}
+use Rattle.frames.specs.Kinds.{among, kindOf}
+use borrow.Author.Needs.{needs}
+use lib.ListN.{getD}
+use mathlib.Core.Path.{sym, _∙_}
+use native.Mathlib.Omega.{arith}
+use Rattle.frames.proofs.kind.kind_of.Tie as tie
+
+pub kind-of-spec : {M : Type 1} → statement M
+unfolding kindOf among
+kind-of-spec =
+    tie.close
+    (tie.spec
+    (search needs)
+    (λ c. (simp (sym (c .before .fits2 .ensures) ∙ c .if1 .taken), fits-long _ _ _ _ (sym (c .before .fits2 .ensures) ∙ c .if1 .taken)))
+    (search needs)
+    (λ c. (simp (sym (c .before .before .before .fits2 .ensures) ∙ c .before .before .if1 .left, sym (c .before .fits3 .ensures) ∙ c .if2 .taken), fits-long _ _ _ _ (sym (c .before .fits3 .ensures) ∙ c .if2 .taken)))
+    (search needs)
+    (λ c. omega (arith, fits-long _ _ _ _ (sym (c .before .before .fits4 .ensures) ∙ c .before .if3 .taken)))
+    (search needs)
+    (λ c.
+    let q = c .before .before in
+    (c .sworn .ensures ∙ simp (sym (q .before .before .before .before .before .fits2 .ensures) ∙ q .before .before .before .before .if1 .left, sym (q .before .before .before .fits3 .ensures) ∙ q .before .before .if2 .left, sym (q .before .fits4 .ensures) ∙ q .if3 .taken), rw (c .sworn .ensures) (sworn-least (getD (q .before .before .before .before .before .before .before .args .f .now) 57 0) _ (fits-long _ _ _ _ (sym (q .before .fits4 .ensures) ∙ q .if3 .taken)))))
+    (search needs)
+    (λ c. (simp (sym (c .before .before .before .before .before .before .before .fits2 .ensures) ∙ c .before .before .before .before .before .before .if1 .left, sym (c .before .before .before .before .before .fits3 .ensures) ∙ c .before .before .before .before .if2 .left, sym (c .before .before .before .fits4 .ensures) ∙ c .before .before .if3 .left, sym (c .before .fits5 .ensures) ∙ c .if4 .taken), fits-long _ _ _ _ (sym (c .before .fits5 .ensures) ∙ c .if4 .taken)))
+    (search needs)
+    (λ c. (simp (sym (c .before .before .before .before .before .before .before .before .before .fits2 .ensures) ∙ c .before .before .before .before .before .before .before .before .if1 .left, sym (c .before .before .before .before .before .before .before .fits3 .ensures) ∙ c .before .before .before .before .before .before .if2 .left, sym (c .before .before .before .before .before .fits4 .ensures) ∙ c .before .before .before .before .if3 .left, sym (c .before .before .before .fits5 .ensures) ∙ c .before .before .if4 .left, sym (c .before .fits6 .ensures) ∙ c .if5 .taken), fits-long _ _ _ _ (sym (c .before .fits6 .ensures) ∙ c .if5 .taken)))
+    (search needs)
+    (λ c. (simp (sym (c .before .before .before .before .before .before .before .before .before .before .before .fits2 .ensures) ∙ c .before .before .before .before .before .before .before .before .before .before .if1 .left, sym (c .before .before .before .before .before .before .before .before .before .fits3 .ensures) ∙ c .before .before .before .before .before .before .before .before .if2 .left, sym (c .before .before .before .before .before .before .before .fits4 .ensures) ∙ c .before .before .before .before .before .before .if3 .left, sym (c .before .before .before .before .before .fits5 .ensures) ∙ c .before .before .before .before .if4 .left, sym (c .before .before .before .fits6 .ensures) ∙ c .before .before .if5 .left, sym (c .before .fits7 .ensures) ∙ c .if6 .taken), fits-long _ _ _ _ (sym (c .before .fits7 .ensures) ∙ c .if6 .taken)))
+    (search needs)
+    (λ c. (simp (sym (c .before .before .before .before .before .before .before .before .before .before .before .before .before .fits2 .ensures) ∙ c .before .before .before .before .before .before .before .before .before .before .before .before .if1 .left, sym (c .before .before .before .before .before .before .before .before .before .before .before .fits3 .ensures) ∙ c .before .before .before .before .before .before .before .before .before .before .if2 .left, sym (c .before .before .before .before .before .before .before .before .before .fits4 .ensures) ∙ c .before .before .before .before .before .before .before .before .if3 .left, sym (c .before .before .before .before .before .before .before .fits5 .ensures) ∙ c .before .before .before .before .before .before .if4 .left, sym (c .before .before .before .before .before .fits6 .ensures) ∙ c .before .before .before .before .if5 .left, sym (c .before .before .before .fits7 .ensures) ∙ c .before .before .if6 .left, sym (c .before .fits8 .ensures) ∙ c .if7 .taken), fits-long _ _ _ _ (sym (c .before .fits8 .ensures) ∙ c .if7 .taken)))
+    (λ c. (simp (sym (c .before .before .before .before .before .before .before .before .before .before .before .before .before .fits2 .ensures) ∙ c .before .before .before .before .before .before .before .before .before .before .before .before .if1 .left, sym (c .before .before .before .before .before .before .before .before .before .before .before .fits3 .ensures) ∙ c .before .before .before .before .before .before .before .before .before .before .if2 .left, sym (c .before .before .before .before .before .before .before .before .before .fits4 .ensures) ∙ c .before .before .before .before .before .before .before .before .if3 .left, sym (c .before .before .before .before .before .before .before .fits5 .ensures) ∙ c .before .before .before .before .before .before .if4 .left, sym (c .before .before .before .before .before .fits6 .ensures) ∙ c .before .before .before .before .if5 .left, sym (c .before .before .before .fits7 .ensures) ∙ c .before .before .if6 .left, sym (c .before .fits8 .ensures) ∙ c .if7 .left), search needs)))

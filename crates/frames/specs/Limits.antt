@@ -1,0 +1,28 @@
+-- The sizes of the line program. They stand here and in no other definition.
+use Prim.Native.Nat.{ℕ, _+_, _*_}
+use Rattle.ledger.specs.Limits.{headSize, recordSize, recordsMost}
+use Rattle.clients.specs.Limits.{clientSize, mostClients}
+use Rattle.desk.specs.Limits.{outputLeast}
+
+-- "more than 640 digits" is no frame
+abbrev pub lineMost : ℕ
+lineMost = 640
+
+-- what is kept of a line: one character more than a frame can have shows that it has too many
+abbrev pub lineKept : ℕ
+lineKept = lineMost + 1
+
+-- the buffers of the largest ledger and of the largest table
+abbrev pub ledgerMost : ℕ
+ledgerMost = headSize + recordsMost * recordSize
+
+abbrev pub tableMost : ℕ
+tableMost = mostClients * clientSize
+
+-- the longest answer, that of 02: "number(1) grant(8) holder(8) scope(4) expiry(8) .. length(1) and that many redirect bytes"
+abbrev pub answerMost : ℕ
+answerMost = 1 + 8 + 8 + 4 + 8 + 1 + outputLeast
+
+-- its line: two digits a byte, and the end of the line
+abbrev pub answerLine : ℕ
+answerLine = 2 * answerMost + 1
