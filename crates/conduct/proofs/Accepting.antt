@@ -19,7 +19,7 @@ use Rattle.ledger.specs.Fields.{nextNumber, rec, slots, records, inState, scope
 use Rattle.ledger.specs.Checks.{isFree, isReference, isCode, isToken, expired, taken}
 use Rattle.ledger.specs.declared.state.State.the-variants.{Redeemed}
 use Rattle.upkeep.proofs.Says.{sized-says}
-use Rattle.upkeep.proofs.Searches.{some-in, first-in, reference-first, code-first, token-first}
+use Rattle.upkeep.proofs.Searches.{some-in, first-in, reference-first, code-first, token-first, free-says, reference-says, token-says}
 use Rattle.clients.specs.Fields.{permitted, client as entry}
 use Rattle.clients.specs.Known.{placeOf}
 use Rattle.desk.specs.Limits.{outputLeast}
@@ -35,7 +35,7 @@ use Rattle.desk.specs.Start.{start}
 use Rattle.conduct.specs.Accepted.{FreshValue, StartAccepted, PushAccepted, DecideAccepted, TokenAccepted, ResourceAccepted, SweepAccepted}
 use Rattle.conduct.proofs.Rows.{push-passed, decide-passed, token-passed, resource-passed, sweep-passed, start-passed}
 use Rattle.conduct.proofs.Facts.{PushFacts, push-facts, facts-push, DecideFacts, decide-facts, facts-decide, TokenFacts, token-facts, facts-token, ResourceFacts, resource-facts, facts-resource, sweep-facts, facts-sweep}
-use Rattle.conduct.proofs.Readings.{time-says, known-is, is-known, redirect-says, challenge-says, verifier-says, scope-says, fresh-says, alive-says, free-says, reference-says, code-waits, waits-code, token-says, place-named}
+use Rattle.conduct.proofs.Readings.{time-says, known-is, is-known, redirect-says, challenge-says, verifier-says, scope-says, fresh-says, alive-says, code-waits, waits-code, place-named}
 
 -- ---- start
 

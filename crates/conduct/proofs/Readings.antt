@@ -3,25 +3,24 @@ use Prim.Native.Nat.{ℕ, _<_}
 use native.Mathlib.Omega.{arith}
 use mathlib.Core.Path.{_≡_, sym, ap, _∙_}
 use mathlib.Core.Logic.{inl, inr, ⊎-elim, _↔_}
-use mathlib.Core.Bool.{Bool, true, false, not, _||_, true≢false}
+use mathlib.Core.Bool.{Bool, true, false, not, true≢false}
 use mathlib.Core.List.{List}
 use lib.Bits.{bitAnd}
 use lib.Dec.{eqb, ltb, leb}
 use lib.ListN.{length, getD, take}
 use borrow.Author.Tests.{ltb-false, le-ltb, leb-true, leb-false, le-leb, lt-leb, eqb-true, eqb-false, eq-eqb, ne-eqb, not-true}
 use Rattle.octets.specs.Lists.{every, place}
-use Rattle.octets.specs.Parts.{same}
 use Rattle.octets.proofs.Tests.{both, both-true}
 use Rattle.octets.proofs.Lists.{every-at, every-of}
 use Rattle.octets.proofs.Parts.{same-eq, same-of}
 use Rattle.forms.specs.Limits.{redirectLeast, redirectMost, redirectPrefix, challengeLength, verifierLeast, verifierMost}
 use Rattle.forms.specs.Forms.{between, begins, visible, urlSafe, unreserved, redirectFormed, challengeFormed, verifierFormed}
 use Rattle.ledger.specs.Limits.{clockLimit}
-use Rattle.ledger.specs.Fields.{clock, records, state, stateNumber, inState, expiry, client, value, token}
-use Rattle.ledger.specs.Checks.{untimely, isFree, isWith, isReference, isCode, isToken, expired, taken}
-use Rattle.ledger.specs.declared.state.State.the-variants.{Free, Pushed, Consented, Redeemed}
-use Rattle.upkeep.proofs.Says.{either, neither}
-use Rattle.upkeep.proofs.Searches.{First, some-in, first-in, first-place, fresh-in, fresh-taken}
+use Rattle.ledger.specs.Fields.{clock, records, state, stateNumber, inState, expiry, client, value}
+use Rattle.ledger.specs.Checks.{untimely, isCode, expired, taken}
+use Rattle.ledger.specs.declared.state.State.the-variants.{Consented, Redeemed}
+use Rattle.upkeep.proofs.Says.{neither}
+use Rattle.upkeep.proofs.Searches.{First, some-in, first-in, first-place, code-says, fresh-in, fresh-taken}
 use Rattle.clients.specs.Known.{isKnown, placeOf, known}
 use Rattle.clients.specs.Sound.{sound as tableSound}
 use Rattle.clients.specs.declared.known.Known.the-variants.{At}
@@ -122,44 +121,14 @@ alive-says t r = (leb-false (expiry r) t, lt-leb (expiry r) t)
 
 -- ---- the record that a call asks for
 
-with-says : (v c r : List ℕ) → (isWith v c r ≡ true) ↔ ((value r ≡ v) × (client r ≡ c))
-unfolding isWith
-with-says v c r = (
-  λ e. let (a, b) = both (same (value r) v) (same (client r) c) e in (same-eq (value r) v a, same-eq (client r) c b),
-  λ f. both-true (same (value r) v) (same (client r) c) (same-of (value r) v (f .0)) (same-of (client r) c (f .1)),
-)
-
-pub free-says : (r : List ℕ) → (isFree r ≡ true) ↔ (state r ≡ stateNumber Free)
-unfolding isFree
-free-says r = (eqb-true (state r) 0, eq-eqb (state r) 0)
-
-pub reference-says : (v c r : List ℕ) → (isReference v c r ≡ true) ↔ ((state r ≡ stateNumber Pushed) × ((value r ≡ v) × (client r ≡ c)))
-unfolding isReference
-reference-says v c r = (
-  λ e. let (a, b) = both (inState Pushed r) (isWith v c r) e in (eqb-true (state r) 1 a, with-says v c r .0 b),
-  λ f. both-true (inState Pushed r) (isWith v c r) (eq-eqb (state r) 1 (f .0)) (with-says v c r .1 (f .1)),
-)
-
 -- 14 and 15 together: a code that waits
 pub code-waits : (v c r : List ℕ) → isCode v c r ≡ true → inState Redeemed r ≡ false → (state r ≡ stateNumber Consented) × ((value r ≡ v) × (client r ≡ c))
-unfolding isCode
 code-waits v c r e n =
-    let (a, b) = both (inState Consented r || inState Redeemed r) (isWith v c r) e in
-    (⊎-elim (λ x. eqb-true (state r) 2 x) (λ x. absurd (true≢false (sym x ∙ n))) (either (inState Consented r) (inState Redeemed r) a), with-says v c r .0 b)
+    let f = code-says v c r .0 e in
+    (⊎-elim {C = state r ≡ 2} (λ s. s) (λ s. absurd (true≢false (sym (eq-eqb (state r) 3 s) ∙ n))) (f .0), f .1)
 
 pub waits-code : (v c r : List ℕ) → state r ≡ stateNumber Consented → value r ≡ v → client r ≡ c → (isCode v c r ≡ true) × (inState Redeemed r ≡ false)
-unfolding isCode
-waits-code v c r s x y = (
-  rw (eq-eqb (state r) 2 s) (with-says v c r .1 (x, y)),
-  ne-eqb (state r) 3 (λ e. omega arith),
-)
-
-pub token-says : (v r : List ℕ) → (isToken v r ≡ true) ↔ ((state r ≡ stateNumber Redeemed) × (token r ≡ v))
-unfolding isToken
-token-says v r = (
-  λ e. let (a, b) = both (inState Redeemed r) (same (token r) v) e in (eqb-true (state r) 3 a, same-eq (token r) v b),
-  λ f. both-true (inState Redeemed r) (same (token r) v) (eq-eqb (state r) 3 (f .0)) (same-of (token r) v (f .1)),
-)
+waits-code v c r s x y = (code-says v c r .1 (inl s, (x, y)), ne-eqb (state r) 3 (λ e. omega arith))
 
 -- the first record that passes is the one named
 pub place-named : (q : List ℕ → Bool) (l : List ℕ) (k : ℕ) → First q l k → place q (records l) ≡ k

@@ -1,10 +1,9 @@
 -- What the answers of the checks say of the table's conditions. Assumes nothing.
 use Prim.Native.Nat.{ℕ}
-use mathlib.Core.Path.{_≡_, refl, sym, ap, _∙_}
-use mathlib.Core.Bool.{Bool, true, false, not, _&&_, cond, and-false}
+use mathlib.Core.Path.{_≡_, refl, ap, _∙_}
+use mathlib.Core.Bool.{Bool, true, false, not, _&&_}
 use mathlib.Core.List.{List}
 use native.Mathlib.Omega.{arith}
-use borrow.Author.Tests.{not-true, not-false}
 use Rattle.forms.specs.Forms.{redirectFormed, challengeFormed}
 use Rattle.clients.specs.Known.{isKnown, placeOf, known}
 use Rattle.clients.specs.Sound.{sound as tableSound, checkTable}

@@ -10,7 +10,7 @@ use borrow.Author.Tests.{leb-true, leb-false, eqb-false}
 use lib.ListN.{length}
 use Rattle.octets.proofs.Tests.{and-l, and-r}
 use Rattle.ledger.specs.Sound.{sized, sound}
-use Rattle.octets.specs.Lists.{some, place}
+use Rattle.octets.specs.Lists.{place}
 use Rattle.octets.specs.Parts.{part, splice}
 use Rattle.octets.proofs.Lists.{place-lt}
 use Rattle.ledger.specs.Limits.{referenceLifetime, codeLifetime, tokenLifetime, lastNumber}
@@ -18,7 +18,7 @@ use Rattle.ledger.specs.Fields.{rec, slots, records, clock, nextNumber, grant, 
 use Rattle.ledger.specs.Checks.{untimely, found, isFree}
 use Rattle.ledger.specs.Write.{pushed, consented, redeemed, free}
 use Rattle.ledger.specs.declared.find.Found.the-variants.{At}
-use Rattle.ledger.proofs.Records.{slot-within, whole-part, length-records}
+use Rattle.ledger.proofs.Records.{whole-part, length-records}
 use Rattle.ledger.proofs.Told.{found-told, found-place}
 use Rattle.desk.specs.Answers.{answerOf, answerNo, decided}
 use Rattle.desk.specs.Requests.{PushRequest, DecideRequest, TokenRequest}

@@ -1,6 +1,6 @@
 -- "Decide (reference, client id, yes or no, holder, fresh value, output buffer): 20, 10, 11, 12. .. On yes, 7 is checked"
 use Prim.Native.Nat.{ℕ, _+_}
-use mathlib.Core.Bool.{Bool, true, false, not, _&&_, cond}
+use mathlib.Core.Bool.{not, _&&_, cond}
 use mathlib.Core.List.{List, [], _∷_}
 use lib.Dec.{eqb, ltb}
 use lib.ListN.{length}

@@ -1,6 +1,6 @@
 -- "Push (client id, authentication key, scope, challenge, redirect, fresh value): 3, 4, 5, 6, 7, 8, 9."
 use Prim.Native.Nat.{ℕ, _+_}
-use mathlib.Core.Bool.{Bool, not, _&&_, cond}
+use mathlib.Core.Bool.{not, _&&_}
 use mathlib.Core.List.{List, [], _∷_}
 use lib.Dec.{eqb}
 use Rattle.octets.specs.Lists.{some, place}

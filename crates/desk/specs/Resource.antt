@@ -1,6 +1,6 @@
 -- "Resource (token, presented key, scope asked, holder asked): 17, 11, 18, 6, 19. Only the clock changes. The client table is not read."
 use Prim.Native.Nat.{ℕ}
-use mathlib.Core.Bool.{Bool, not}
+use mathlib.Core.Bool.{not}
 use mathlib.Core.List.{List, [], _∷_}
 use lib.Dec.{eqb}
 use Rattle.octets.specs.Lists.{some, place}

@@ -1,6 +1,6 @@
 -- "Start (ledger buffer, old content ignored): 1 if the length is wrong. Writes zeros and next number 1."
 use Prim.Native.Nat.{ℕ}
-use mathlib.Core.Bool.{Bool, cond}
+use mathlib.Core.Bool.{cond}
 use mathlib.Core.List.{List}
 use lib.ListN.{length}
 use Rattle.octets.specs.Parts.{blank}

@@ -1,6 +1,6 @@
 -- "Token (client id, authentication key, presented key, code, verifier, fresh value): 3, 4, 13, 5, then 14 or 15, 11, 16, 7."
 use Prim.Native.Nat.{ℕ, _+_}
-use mathlib.Core.Bool.{Bool, not}
+use mathlib.Core.Bool.{not}
 use mathlib.Core.List.{List, [], _∷_}
 use Rattle.octets.specs.Lists.{some, place}
 use Rattle.octets.specs.Parts.{zeros}

@@ -1,6 +1,6 @@
 // The answers, and the rows of the table "Numbers returned".
 ghost use mathlib.Core.Path.{_≡_};
-ghost use Rattle.desk.specs.Answers.{numberOf, done, answerOf, answerNo, refused, decided, undecided, sweptOf, unswept};
+ghost use Rattle.desk.specs.Answers.{numberOf, answerOf, answerNo, refused, decided, undecided, sweptOf, unswept};
 use ledger::record::expiry;
 use ledger::record::grant;
 use ledger::record::holder;

@@ -1,20 +1,18 @@
 -- Consents accepted are tokens issued, codes dropped and codes waiting, step by step. Assumes nothing.
-use Prim.Native.Nat.{ℕ, zero, suc, _+_, _<_}
+use Prim.Native.Nat.{ℕ, _+_}
 use native.Mathlib.Omega.{arith}
-use mathlib.Core.Path.{_≡_, refl, sym, ap, _∙_}
-use mathlib.Core.Bool.{Bool, true, false, not, _&&_, cond, and-true, and-false}
+use mathlib.Core.Path.{_≡_, refl, ap}
+use mathlib.Core.Bool.{Bool, true, false, _&&_, and-true, and-false}
 use mathlib.Core.List.{List, [], _∷_, map}
 use lib.Dec.{eqb}
-use lib.ListN.{length, getD, set}
 use borrow.Author.Tests.{eqb-true}
 use Rattle.octets.specs.Lists.{bit, count}
 use Rattle.octets.proofs.Lists.{count-set}
 use Rattle.octets.proofs.Numbers.{Octets}
-use Rattle.ledger.specs.Fields.{nextNumber, records, rec, state, used, inState, client, holder}
+use Rattle.ledger.specs.Fields.{nextNumber, records, rec, state, used, client, holder}
 use Rattle.ledger.specs.Checks.{expired}
 use Rattle.ledger.specs.Write.{free}
 use Rattle.ledger.specs.Sweep.{sweptRecord}
-use Rattle.ledger.specs.declared.state.State.the-variants.{Free}
 use Rattle.upkeep.proofs.Replaced.{free-state}
 use Rattle.desk.specs.Decide.{referenceAt, consentAt, declineAt}
 use Rattle.desk.specs.Token.{codeAt, tokenAt}

@@ -1,17 +1,17 @@
 -- Demand 3 in the order of time, from the same with the latest call first. Assumes nothing.
-use Prim.Native.Nat.{ℕ, zero, suc, _+_, _*_, _≤_}
+use Prim.Native.Nat.{ℕ, suc, _+_, _≤_}
 use native.Mathlib.Omega.{arith}
 use mathlib.Core.Path.{_≡_, refl, sym, ap, _∙_}
-use mathlib.Core.Bool.{Bool, true, false, _&&_, cond}
+use mathlib.Core.Bool.{Bool, true, false, cond}
 use mathlib.Core.List.{List, [], _∷_, _++_, reverse, append-nil, reverse-cons, reverse-append}
 use lib.ListN.{length, getD}
 use Rattle.octets.specs.Lists.{bit, count, tabulate}
-use Rattle.ledger.specs.Fields.{records, state, client, holder}
+use Rattle.ledger.specs.Fields.{records, client}
 use Rattle.ledger.specs.Sound.{sound}
 use Rattle.desk.specs.Requests.{PushRequest, DecideRequest, TokenRequest, ResourceRequest}
-use Rattle.history.specs.Runs.{Call, push, decide, token, resource, AllTyped, Step, step, accepted, grantOf, started, steps, last}
+use Rattle.history.specs.Runs.{Call, push, decide, token, resource, AllTyped, Step, accepted, grantOf, started, steps, last}
 use Rattle.history.specs.Counts.{Whose, just, anyone, sum, isConsent, isIssue, waits, dropsIn, consents, tokens, drops, waiting}
-use Rattle.history.specs.Histories.{concerns, history, numbersOf, issued, Chain, Life}
+use Rattle.history.specs.Histories.{concerns, history, numbersOf, Chain}
 use Rattle.history.specs.Demand3.{reading, Demand3, EveryRun}
 use Rattle.history.proofs.Steps.{never-one}
 use Rattle.history.proofs.Trace.{run, trace, steps-is, last-is, typed-reverse, typed-append, Good, good-run, good-start}

@@ -1,16 +1,14 @@
 -- What each accepted call does to the records, the next number and the clock. Assumes nothing.
 use Prim.Native.Nat.{ℕ, zero, suc, _+_, _≤_, _<_, _^_}
 use native.Mathlib.Omega.{arith}
-use native.Mathlib.Decide.{decLt}
 use mathlib.Core.Path.{_≡_, refl, sym, ap, _∙_}
-use mathlib.Core.Logic.{_≢_}
-use mathlib.Core.Bool.{Bool, true, false, not, _&&_, _||_}
+use mathlib.Core.Bool.{Bool, true, false, not, _||_}
 use mathlib.Core.List.{List, [], _∷_, map}
 use lib.Dec.{eqb, ltb, leb}
-use lib.ListN.{length, getD, set, List·getD-eq-default}
+use lib.ListN.{length, getD, set}
 use lib.Seq.{ext-getD}
 use borrow.Author.Tests.{leb-false, ltb-false, eqb-true, eqb-false}
-use Rattle.octets.specs.Lists.{some, place}
+use Rattle.octets.specs.Lists.{place}
 use Rattle.octets.specs.Numbers.{num}
 use Rattle.octets.specs.Parts.{same}
 use Rattle.octets.proofs.Tests.{both}
@@ -46,13 +44,13 @@ use Rattle.ledger.specs.Checks.{untimely, isFree, isWith, isReference, isCode, 
 use Rattle.ledger.specs.Write.{free}
 use Rattle.ledger.specs.Sweep.{swept, sweptRecord}
 use Rattle.ledger.specs.declared.state.State.the-variants.{Pushed, Consented, Redeemed}
-use Rattle.ledger.proofs.Records.{length-records, records-at, rec-length, slots-room, length-with, records-with}
+use Rattle.ledger.proofs.Records.{length-records, records-at, rec-length, length-with, records-with}
 use Rattle.upkeep.specs.View.{slotOf, pushedSlot, consentedSlot, redeemedSlot}
 use Rattle.upkeep.proofs.Written.{Wrote as Leaves, pushed-wrote, consented-wrote, redeemed-wrote}
 use Rattle.ledger.proofs.Swept.{length-free, rec-swept, slots-swept}
 use Rattle.upkeep.proofs.Says.{neither, of-sound}
 use Rattle.upkeep.proofs.Searches.{First, first-in}
-use Rattle.upkeep.proofs.Heads.{length-clock, records-clock, next-clock, clock-is, length-next, records-next, next-is, next-with, next-left}
+use Rattle.upkeep.proofs.Heads.{records-clock, next-clock, clock-is, length-next, records-next, next-is, next-with, next-left}
 use Rattle.upkeep.proofs.Kept.{head-swept, length-sweep}
 use Rattle.desk.specs.Checks.{scopeFits, within}
 use Rattle.desk.specs.Requests.{PushRequest, DecideRequest, TokenRequest, ResourceRequest}

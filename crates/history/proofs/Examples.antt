@@ -1,7 +1,7 @@
 -- The statement is not empty: two runs on one record, computed. Assumes nothing.
 use Prim.Native.Nat.{ℕ}
 use mathlib.Core.Path.{_≡_, refl}
-use mathlib.Core.Bool.{Bool, true, false}
+use mathlib.Core.Bool.{true, false}
 use mathlib.Core.List.{List, [], _∷_, _++_}
 use lib.ListN.{replicate}
 use Rattle.octets.specs.Lists.{tabulate}
@@ -33,7 +33,7 @@ use Rattle.desk.specs.Decide.{decideChecks, consentRecord, consentAt, declineAt
 use Rattle.desk.specs.Token.{tokenChecks, tokenRecord, tokenAt, token as doToken}
 use Rattle.desk.specs.Resource.{resourceChecks, look, resource as doResource}
 use Rattle.desk.specs.Sweep.{sweepChecks, sweep as doSweep}
-use Rattle.history.specs.Runs.{Call, push, decide, token, resource, sweep, step, accepted, grantOf, started, steps, last}
+use Rattle.history.specs.Runs.{Call, push, decide, token, sweep, step, accepted, grantOf, started, steps, last}
 use Rattle.history.specs.Counts.{just, consents, tokens, drops, waiting}
 use Rattle.history.specs.Histories.{history}
 use Rattle.history.specs.Demand3.{reading}

@@ -1,20 +1,20 @@
 -- The ties, the unborn numbers, the times and the lives are kept by every step of a run. Assumes nothing.
-use Prim.Native.Nat.{ℕ, zero, suc, _+_, _*_, _<_, _≤_}
+use Prim.Native.Nat.{ℕ, _+_, _*_, _<_, _≤_}
 use native.Mathlib.Omega.{arith}
 use native.Mathlib.Nat.{le-refl}
 use native.Mathlib.Decide.{decLt}
 use mathlib.Core.Path.{_≡_, refl, sym, ap, _∙_}
 use mathlib.Core.Logic.{_≢_}
 use mathlib.Core.Bool.{Bool, true, false, _&&_, cond}
-use mathlib.Core.List.{List, [], _∷_, map, reverse}
+use mathlib.Core.List.{List, [], _∷_}
 use lib.Dec.{eqb}
-use lib.ListN.{length, getD}
+use lib.ListN.{getD}
 use borrow.Author.Tests.{eq-eqb}
-use Rattle.octets.specs.Parts.{blank, zeros}
+use Rattle.octets.specs.Parts.{blank}
 use Rattle.octets.proofs.Parts.{zeros-blank}
 use Rattle.octets.proofs.Bytes.{zeros-part, zeros-at}
 use Rattle.octets.proofs.Numbers.{Octets}
-use Rattle.ledger.specs.Fields.{clock, nextNumber, rec, slots, records, state, used, scope, grant, expiry, holder, client, challenge}
+use Rattle.ledger.specs.Fields.{nextNumber, rec, slots, records, state, used, scope, grant, expiry, holder, client, challenge}
 use Rattle.ledger.specs.Checks.{expired}
 use Rattle.ledger.specs.Write.{free}
 use Rattle.ledger.specs.Sweep.{sweptRecord}
@@ -25,14 +25,14 @@ use Rattle.desk.specs.Start.{fresh}
 use Rattle.desk.specs.Push.{pushAt}
 use Rattle.desk.specs.Requests.{PushRequest, DecideRequest, TokenRequest}
 use Rattle.desk.specs.Decide.{referenceAt, consentAt, declineAt, consentRecord}
-use Rattle.desk.specs.Token.{codeAt, tokenAt}
+use Rattle.desk.specs.Token.{tokenAt}
 use Rattle.desk.specs.declared.answer.Refusal.{Refusal}
-use Rattle.history.specs.Runs.{Call, push, decide, token, resource, sweep, Typed, AllTyped, Said, decided, Step, made, step, started}
-use Rattle.history.specs.Histories.{concerns, history, Life, unborn, asked, redeemed}
+use Rattle.history.specs.Runs.{Call, push, decide, token, resource, sweep, Typed, AllTyped, decided, Step, step, started}
+use Rattle.history.specs.Histories.{concerns, history, unborn, asked, redeemed}
 use Rattle.history.specs.Histories as histories
 use Rattle.conduct.proofs.Turns.{Passed}
 use Rattle.history.proofs.Steps.{checksOf, refusedBy, refusal, acceptance, left, step-cases, consenting, declining, deciding, decide-branch, refused-not}
-use Rattle.conduct.proofs.Facts.{PushFacts, push-facts, DecideFacts, decide-facts, TokenFacts, token-facts, resource-facts, sweep-facts}
+use Rattle.conduct.proofs.Facts.{push-facts, decide-facts, token-facts, resource-facts, sweep-facts}
 use Rattle.history.proofs.Effects.{
   Wrote,
   Pushes,

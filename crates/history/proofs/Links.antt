@@ -1,18 +1,18 @@
 -- Each record in use is tied to the history of its grant number. Assumes nothing.
-use Prim.Native.Nat.{ℕ, zero, suc, _+_, _<_, _≤_}
+use Prim.Native.Nat.{ℕ, _+_, _<_, _≤_}
 use native.Mathlib.Omega.{arith}
 use native.Mathlib.Decide.{ℕ-discrete, decLt}
-use mathlib.Core.Path.{_≡_, refl, sym, ap, _∙_}
+use mathlib.Core.Path.{_≡_, refl, ap, _∙_}
 use mathlib.Core.Logic.{_≢_}
-use mathlib.Core.Bool.{Bool, true, false, _&&_, cond}
+use mathlib.Core.Bool.{true, false}
 use mathlib.Core.List.{List, [], _∷_, reverse}
 use lib.Dec.{eqb}
-use lib.ListN.{length, getD, set, List·getD-eq-default}
+use lib.ListN.{getD, set, List·getD-eq-default}
 use lib.Seq.{getD-set-same, getD-set-other}
 use borrow.Author.Tests.{eq-eqb, ne-eqb}
 use Rattle.s256.specs.Rule.{matches}
 use Rattle.ledger.specs.Limits.{referenceLifetime, codeLifetime, tokenLifetime}
-use Rattle.ledger.specs.Fields.{clock, nextNumber, rec, slots, records, state, scope, grant, expiry, holder, client, challenge, token as tokenField, boundKey}
+use Rattle.ledger.specs.Fields.{clock, nextNumber, slots, records, state, scope, grant, expiry, holder, client, challenge, token as tokenField, boundKey}
 use Rattle.ledger.specs.Sound.{sound}
 use Rattle.ledger.proofs.Records.{length-records, records-at}
 use Rattle.upkeep.proofs.Says.{of-sound}

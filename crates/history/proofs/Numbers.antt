@@ -1,7 +1,7 @@
 -- The grant numbers of accepted pushes are 1, 2, 3 and so on. Assumes nothing.
-use Prim.Native.Nat.{ℕ, zero, suc, _+_, _*_}
+use Prim.Native.Nat.{ℕ, suc, _+_, _*_}
 use native.Mathlib.Omega.{arith}
-use mathlib.Core.Path.{_≡_, refl, sym, ap, ap₂, _∙_}
+use mathlib.Core.Path.{_≡_, refl, ap, ap₂, _∙_}
 use mathlib.Core.Bool.{Bool, true, false, cond}
 use mathlib.Core.List.{List, [], _∷_, _++_, reverse, reverse-cons, append-nil}
 use lib.ListN.{length, length-append}
@@ -9,14 +9,14 @@ use Rattle.octets.specs.Lists.{tabulate}
 use Rattle.octets.specs.Parts.{blank}
 use Rattle.octets.proofs.Parts.{length-blank}
 use Rattle.octets.proofs.Numbers.{Octets}
-use Rattle.ledger.specs.Fields.{nextNumber, grant}
+use Rattle.ledger.specs.Fields.{nextNumber}
 use Rattle.upkeep.proofs.Heads.{next-is}
 use Rattle.desk.specs.Start.{fresh}
 use Rattle.desk.specs.Push.{pushAt}
 use Rattle.desk.specs.declared.answer.Refusal.{Refusal}
 use Rattle.conduct.proofs.Turns.{Passed}
 use Rattle.conduct.proofs.Facts.{push-facts, decide-facts, token-facts, resource-facts, sweep-facts}
-use Rattle.history.specs.Runs.{Call, push, decide, token, resource, sweep, Typed, AllTyped, Step, step, grantOf, started}
+use Rattle.history.specs.Runs.{Call, push, decide, token, resource, sweep, Typed, AllTyped, Step, grantOf, started}
 use Rattle.history.specs.Histories.{isPush, numbersOf}
 use Rattle.history.proofs.Steps.{checksOf, refusedBy, refusal, acceptance, left, step-cases, consenting, declining, deciding, decide-branch, refused-not}
 use Rattle.history.proofs.Effects.{pushes, consents, declines, redeems, ticks, sweeps}

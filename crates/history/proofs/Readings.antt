@@ -1,24 +1,22 @@
 -- What stands behind a granted reading, and that it stays. Assumes nothing.
-use Prim.Native.Nat.{ℕ, zero, suc, _+_, _<_, _≤_}
+use Prim.Native.Nat.{ℕ, _+_, _<_, _≤_}
 use native.Mathlib.Omega.{arith}
 use native.Mathlib.Decide.{ℕ-discrete}
 use mathlib.Core.Path.{_≡_, refl, sym, ap, _∙_}
 use mathlib.Core.Logic.{_≢_, inl, inr}
-use mathlib.Core.Bool.{Bool, true, false, not, _&&_, _||_, cond, false≢true, true≢false, or-true}
+use mathlib.Core.Bool.{Bool, true, false, _&&_, _||_, false≢true, or-true}
 use mathlib.Core.List.{List, [], _∷_, _++_, reverse, reverse-cons}
-use lib.Dec.{eqb}
-use lib.ListN.{length, getD, length-append}
+use lib.ListN.{length, length-append}
 use Rattle.octets.specs.Lists.{some, place}
 use Rattle.octets.specs.Parts.{zeros, same}
 use Rattle.octets.proofs.Tests.{both, both-true, and-l, false-of}
 use Rattle.octets.proofs.Parts.{same-eq, same-refl}
-use Rattle.ledger.specs.Fields.{clock, nextNumber, rec, slots, records, state, used, grant, value, token as tokenField}
-use Rattle.ledger.specs.Sound.{sound}
-use Rattle.upkeep.proofs.Says.{of-sound, used-says}
+use Rattle.ledger.specs.Fields.{rec, slots, records, used, grant, value, token as tokenField}
+use Rattle.upkeep.proofs.Says.{of-sound}
 use Rattle.upkeep.proofs.Searches.{first-in}
 use Rattle.desk.specs.Requests.{ResourceRequest}
 use Rattle.desk.specs.Resource.{tokenPlace}
-use Rattle.history.specs.Runs.{Call, push, decide, token, resource, sweep, Typed, AllTyped, Said, Step, step, accepted, grantOf, started}
+use Rattle.history.specs.Runs.{Call, push, decide, token, resource, sweep, AllTyped, Said, Step, step, accepted, grantOf, started}
 use Rattle.history.specs.Histories.{concerns, history, isTokenOf, issued, Chain, Life, unborn, asked, decided, redeemed}
 use Rattle.history.specs.Demand3.{reading, stands}
 use Rattle.history.proofs.Steps.{step-cases, refused-not}
@@ -26,7 +24,7 @@ use Rattle.conduct.proofs.Facts.{resource-facts}
 use Rattle.history.proofs.Effects.{Reads, reads}
 use Rattle.history.proofs.Trace.{run, trace, Good}
 use Rattle.history.proofs.Links.{TiedRedeemed, Tied, history-in, history-out, Inv}
-use Rattle.history.proofs.Invariant.{inv-step, inv-run}
+use Rattle.history.proofs.Invariant.{inv-run}
 
 -- ---- the chain
 

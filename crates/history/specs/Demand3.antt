@@ -4,7 +4,7 @@ use Prim.Native.Nat.{ℕ, _+_, _≤_}
 use mathlib.Core.Path.{_≡_}
 use mathlib.Core.Logic.{_≢_}
 use mathlib.Core.Bool.{Bool, true, false, _&&_}
-use mathlib.Core.List.{List, [], _∷_, _++_}
+use mathlib.Core.List.{List, _∷_, _++_}
 use lib.ListN.{length}
 use Rattle.octets.specs.Lists.{some, tabulate}
 use Rattle.octets.specs.Parts.{same}
@@ -14,7 +14,7 @@ use Rattle.ledger.specs.Sound.{sound}
 use Rattle.desk.specs.Answers.{numberOf}
 use Rattle.desk.specs.Requests.{ResourceRequest}
 use Rattle.desk.specs.declared.answer.Refusal.the-variants.{LedgerUnsound}
-use Rattle.history.specs.Runs.{Call, resource, Typed, AllTyped, Said, step, numberIn, accepted, grantOf, started, steps, last}
+use Rattle.history.specs.Runs.{Call, resource, AllTyped, Said, step, numberIn, accepted, grantOf, started, steps, last}
 use Rattle.history.specs.Counts.{just, anyone, consents, tokens, drops, waiting}
 use Rattle.history.specs.Histories.{history, numbersOf, issued, Chain, Life}
 

@@ -1,15 +1,14 @@
 -- What a loop over the records keeps, whatever test it asks of each. Assumes nothing.
-use Prim.Native.Nat.{ℕ, zero, suc, _+_, _≤_, _<_}
+use Prim.Native.Nat.{ℕ, suc, _+_, _≤_, _<_}
 use native.Mathlib.Omega.{arith}
-use mathlib.Core.Path.{_≡_, refl, sym, ap, _∙_}
-use mathlib.Core.Bool.{Bool, true, false, cond}
-use mathlib.Core.List.{List, [], _∷_}
+use mathlib.Core.Path.{_≡_, refl, _∙_}
+use mathlib.Core.Bool.{Bool, true, false}
+use mathlib.Core.List.{List, []}
 use lib.ListN.{length, getD, drop}
 use Rattle.octets.specs.Lists.{every, some, place, apart}
 use Rattle.octets.proofs.Lists.{every-hit, every-miss, every-end, some-hit, some-miss, some-end, place-hit, place-miss, apart-hit, apart-miss, apart-end}
 use Rattle.ledger.specs.Fields.{rec, slots, records}
 use Rattle.ledger.specs.Checks.{found}
-use Rattle.ledger.specs.declared.find.Found.{Found}
 use Rattle.ledger.specs.declared.find.Found.the-variants.{At, Nothing}
 use Rattle.ledger.proofs.Records.{length-records, records-at}
 

@@ -1,15 +1,14 @@
 -- Laws of records: their number, their places, one replaced. Assumes nothing.
-use Prim.Native.Nat.{ℕ, zero, suc, _+_, _*_, _-_, _≤_, _<_}
+use Prim.Native.Nat.{ℕ, _+_, _*_, _-_, _≤_, _<_}
 use native.Mathlib.Nat.{add-sub-cancel-left}
 use native.Mathlib.Omega.{arith}
 use native.Mathlib.Decide.{ℕ-discrete, decLt}
-use mathlib.Core.Path.{_≡_, refl, sym, ap, _∙_}
+use mathlib.Core.Path.{_≡_, refl, sym, _∙_}
 use mathlib.Core.Logic.{_≢_}
-use mathlib.Core.List.{List, [], _∷_}
-use lib.ListN.{length, getD, take, drop, set, length-take, length-drop, length-set, drop-of-length-le, List·getD-eq-default}
+use mathlib.Core.List.{List, []}
+use lib.ListN.{length, getD, set, length-set, drop-of-length-le}
 use lib.Seq.{ext-getD, getD-set-same, getD-set-other, take-nil}
-use Rattle.octets.specs.Lists.{tabulate}
-use Rattle.octets.specs.Parts.{part, splice}
+use Rattle.octets.specs.Parts.{part}
 use Rattle.octets.proofs.Parts.{part-length, splice-length, part-same, part-before, part-behind}
 use Rattle.octets.proofs.Tabulate.{length-tabulate, getD-tabulate}
 use Rattle.ledger.specs.Fields.{rec, slots, records, withRecord}

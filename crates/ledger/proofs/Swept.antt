@@ -5,11 +5,9 @@ use native.Mathlib.Numerals.{add-one}
 use native.Mathlib.Omega.{arith}
 use native.Mathlib.Decide.{ℕ-discrete}
 use mathlib.Core.Path.{_≡_, refl, sym, ap, _∙_}
-use mathlib.Core.Logic.{_≢_}
 use mathlib.Core.Bool.{Bool, true, false, _&&_, cond}
-use mathlib.Core.List.{List, [], _∷_, _++_, map}
-use lib.ListN.{length, getD, take, drop, take-append-drop}
-use lib.Seq.{drop-drop}
+use mathlib.Core.List.{List, [], _++_}
+use lib.ListN.{length, take, drop, take-append-drop}
 use Rattle.octets.specs.Lists.{bit, count}
 use Rattle.octets.specs.Parts.{part, splice, blank}
 use Rattle.octets.proofs.Lists.{count-more, count-end}

@@ -1,8 +1,8 @@
 -- What the calls ask of a ledger: the checks that they share, each by the enum that its function answers.
 use Prim.Native.Nat.{ℕ}
-use mathlib.Core.Bool.{Bool, true, false, not, _&&_, _||_, cond}
+use mathlib.Core.Bool.{Bool, _&&_, _||_, cond}
 use mathlib.Core.List.{List}
-use lib.Dec.{eqb, ltb, leb}
+use lib.Dec.{ltb, leb}
 use Rattle.octets.specs.Lists.{some, place}
 use Rattle.octets.specs.Parts.{zeros, same}
 use Rattle.ledger.specs.Limits.{clockLimit}

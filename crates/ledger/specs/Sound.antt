@@ -1,6 +1,6 @@
 -- When a ledger is sound (document 01, section "Ledger", "Sound: .."), rule by rule in its order.
 use Prim.Native.Nat.{ℕ, _+_, _*_, _-_, _%_}
-use mathlib.Core.Bool.{Bool, true, false, not, _&&_, _||_, cond}
+use mathlib.Core.Bool.{Bool, not, _&&_, _||_, cond}
 use mathlib.Core.List.{List}
 use lib.Dec.{eqb, ltb, leb}
 use lib.ListN.{length}

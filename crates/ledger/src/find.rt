@@ -1,7 +1,7 @@
 // Finding a record: the first, in ledger order, of the kind that a call asks for.
 ghost use mathlib.Core.Path.{_≡_};
 ghost use Prim.Native.Nat.{_<_};
-ghost use Rattle.ledger.specs.Fields.{slots, rec};
+ghost use Rattle.ledger.specs.Fields.{slots};
 ghost use Rattle.ledger.specs.Checks.{found, wanted, isFree, isWith, isReference, isCode, isToken};
 use super::field::Field;
 use super::record::at;

@@ -1,8 +1,6 @@
 // A record of the ledger, and its fields, for any slice.
 ghost use mathlib.Core.Path.{_≡_};
 ghost use Prim.Native.Nat.{_<_};
-ghost use lib.ListN.{length};
-ghost use Rattle.ledger.specs.Limits.{recordSize};
 ghost use Rattle.ledger.specs.Fields.{rec, slots, state, redirectLength, scope, grant, expiry, holder};
 ghost use Rattle.ledger.specs.Checks.{checkLife};
 use super::field::Field;

@@ -2,10 +2,8 @@
 ghost use mathlib.Core.Path.{_≡_};
 ghost use mathlib.Core.Bool.{_&&_};
 ghost use Prim.Native.Nat.{_+_, _≤_, _<_, _^_};
-ghost use lib.ListN.{length};
 ghost use Rattle.octets.specs.Lists.{bit};
-ghost use Rattle.ledger.specs.Limits.{recordSize};
-ghost use Rattle.ledger.specs.Fields.{rec, slots, withRecord, inState, used};
+ghost use Rattle.ledger.specs.Fields.{rec, slots, withRecord, used};
 ghost use Rattle.ledger.specs.declared.state.State.the-variants.{Pushed, Consented, Redeemed};
 ghost use Rattle.ledger.specs.Checks.{expired};
 ghost use Rattle.ledger.specs.Sweep.{sweptRecord, swept, due, freed};

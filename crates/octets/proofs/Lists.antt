@@ -9,9 +9,9 @@ use mathlib.Core.Bool.{Bool, true, false, not, _&&_, _||_, cond, false≢true, t
 use mathlib.Core.List.{List, [], _∷_, _++_, map}
 use lib.ListN.{length, getD, drop, set, replicate, drop-of-length-le}
 use lib.Seq.{drop-cons, getD-set-same, getD-set-other}
-use borrow.Author.Tests.{not-true, not-false}
+use borrow.Author.Tests.{not-true}
 use Rattle.octets.specs.Lists.{bit, every, some, count, place, apart}
-use Rattle.octets.proofs.Tests.{both, swap-and, false-of, iff-eq, bit-and}
+use Rattle.octets.proofs.Tests.{both, swap-and, false-of, bit-and}
 
 -- ---- a loop over the elements from k on
 

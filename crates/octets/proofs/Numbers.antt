@@ -1,10 +1,10 @@
 -- Laws of big-endian numbers, over the width. Assumes nothing.
 use mathlib.Core.Path.{_≡_, refl, sym, ap, _∙_}
-use mathlib.Core.List.{List, [], _∷_, _++_, append-assoc, append-nil}
-use Prim.Native.Nat.{ℕ, zero, suc, _+_, _*_, _/_, _%_, _-_, _≤_, _<_, _^_}
+use mathlib.Core.List.{List, [], _∷_, _++_}
+use Prim.Native.Nat.{ℕ, zero, suc, _+_, _*_, _/_, _%_, _≤_, _<_, _^_}
 use native.Mathlib.Numerals.{add-one}
 use native.Mathlib.Omega.{arith}
-use lib.ListN.{length, getD, take, drop, drop-of-length-le, length-append, length-take, List·getD-append}
+use lib.ListN.{length, getD, take, drop, drop-of-length-le, length-append}
 use lib.Dec.{lit<}
 use lib.Pow.{field, mod-mod-pow}
 use lib.Seq.{drop-cons, take-suc, take-add, take-all}

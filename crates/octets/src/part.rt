@@ -1,6 +1,6 @@
 // Parts of a slice: whether one is all zeros, whether two are equal, and filling one.
 ghost use mathlib.Core.Path.{_≡_};
-ghost use Prim.Native.Nat.{_≤_, _<_};
+ghost use Prim.Native.Nat.{_<_};
 ghost use lib.ListN.{length, drop};
 ghost use Prim.Native.Nat.{min};
 ghost use Rattle.octets.specs.Parts.{part, zeros, same, laid, put, blank};

@@ -1,10 +1,9 @@
 -- The outcome of look, by the checks that passed and the one that stopped it. Assumes nothing.
 use Prim.Native.Nat.{ℕ}
-use mathlib.Core.Path.{_≡_, refl, sym, _∙_}
-use mathlib.Core.Bool.{Bool, true, false, not, _&&_}
+use mathlib.Core.Path.{_≡_}
+use mathlib.Core.Bool.{true, false}
 use mathlib.Core.List.{List}
-use lib.Dec.{eqb, ltb}
-use lib.ListN.{length}
+use lib.Dec.{eqb}
 use Rattle.octets.specs.Lists.{some}
 use Rattle.octets.specs.Parts.{same}
 use Rattle.ledger.specs.Fields.{records, rec, scope, holder, boundKey, withClock}

@@ -1,17 +1,17 @@
 -- The short cuts of the pairwise searches miss nothing. Assumes nothing.
-use Prim.Native.Nat.{ℕ, _+_, _≤_, _<_}
+use Prim.Native.Nat.{ℕ, _+_}
 use native.Mathlib.Omega.{arith}
 use mathlib.Core.Path.{_≡_, refl, sym, ap, _∙_}
-use mathlib.Core.Bool.{Bool, true, false, not, _&&_, _||_, cond, and-false, and-true, true≢false}
-use mathlib.Core.List.{List, [], _∷_, _++_}
+use mathlib.Core.Bool.{Bool, true, false, not, _||_, and-false, and-true, true≢false}
+use mathlib.Core.List.{List, [], _∷_}
 use lib.Dec.{eqb}
-use lib.ListN.{length, take, drop}
+use lib.ListN.{drop}
 use lib.Seq.{take-add, drop-drop}
 use borrow.Author.Tests.{eqb-false}
 use Rattle.octets.specs.Lists.{some}
 use Rattle.octets.specs.Parts.{part, zeros, same}
 use Rattle.octets.proofs.Parts.{same-eq, zeros-append}
-use Rattle.octets.proofs.Tests.{false-of, both}
+use Rattle.octets.proofs.Tests.{false-of}
 use Rattle.ledger.specs.Fields.{slots, records, value, token, inState, used, grant}
 use Rattle.ledger.specs.Sound.{holds, meets, sameGrant}
 use Rattle.soundness.specs.Quick.{lead, tokenLead, near, idle, partner}

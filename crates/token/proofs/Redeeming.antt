@@ -1,10 +1,8 @@
 -- The outcome of token, by the checks that passed and the one that stopped it. Assumes nothing.
 use Prim.Native.Nat.{ℕ}
-use mathlib.Core.Path.{_≡_, refl, sym, _∙_}
-use mathlib.Core.Bool.{Bool, true, false, not, _&&_}
+use mathlib.Core.Path.{_≡_}
+use mathlib.Core.Bool.{true, false}
 use mathlib.Core.List.{List}
-use lib.Dec.{eqb, ltb}
-use lib.ListN.{length}
 use Rattle.octets.specs.Lists.{some}
 use Rattle.octets.specs.Parts.{zeros}
 use Rattle.forms.specs.Forms.{verifierFormed}

@@ -4,14 +4,13 @@ use Rattle.clients.specs.Known.{isKnown, placeOf}
 use Rattle.clients.specs.Sound.{sound as tableSound}
 use Rattle.push.proofs.Pushing.{push-1, push-2, push-3, push-4, push-5, push-6, push-7, push-8, push-9, push-done}
 use Rattle.desk.proofs.Told.{told, table-told, known-told, known-place, texts-told, scope-told, scope-bits}
-use Rattle.desk.proofs.Written.{push-at, below-last, found-inside, timely-lt, sound-short, refuses}
+use Rattle.desk.proofs.Written.{push-at, below-last, found-inside, timely-lt, refuses}
 use Rattle.push.proofs.push.Statement.{statement}
 use Rattle.desk.specs.Checks.{scopeFits}
 use Rattle.desk.specs.Push.{asker}
 use Rattle.desk.specs.Requests.{PushRequest}
 use Rattle.desk.specs.Told.{toldIf, toldScope}
 use Rattle.forms.specs.Forms.{redirectFormed, challengeFormed}
-use Rattle.ledger.proofs.Records.{slot-within}
 use Rattle.ledger.proofs.Told.{sound-told, time-told, fresh-told, found-told, found-place}
 use Rattle.ledger.specs.Checks.{untimely, isFree, taken}
 use Rattle.ledger.specs.Fields.{records, slots, nextNumber, challenge, scope}
@@ -19,7 +18,6 @@ use Rattle.ledger.specs.Limits.{lastNumber}
 use Rattle.ledger.specs.Sound.{sound}
 use Rattle.octets.specs.Lists.{some, place}
 use borrow.Author.Needs.{needs}
-use borrow.Author.Tests.{eqb-false}
 use lib.Dec.{eqb}
 use mathlib.Core.Bool.{true, false, _&&_}
 use mathlib.Core.List.{List}

@@ -4,13 +4,12 @@ use Rattle.clients.specs.Known.{isKnown}
 use Rattle.clients.specs.Sound.{sound as tableSound}
 use Rattle.token.proofs.Redeeming.{token-1, token-2, token-3, token-4, token-5, token-6, token-7, token-8, token-9, token-10, token-11, token-done}
 use Rattle.desk.proofs.Told.{told, table-told, known-told}
-use Rattle.desk.proofs.Written.{token-at, found-inside, timely-lt, sound-short, refuses}
+use Rattle.desk.proofs.Written.{token-at, found-inside, timely-lt, refuses}
 use Rattle.token.proofs.token.Statement.{statement}
 use Rattle.desk.specs.Requests.{TokenRequest}
 use Rattle.desk.specs.Token.{codeAt}
 use Rattle.forms.proofs.Laws.{verifier-well, verifier-ill}
 use Rattle.forms.specs.Forms.{verifierFormed}
-use Rattle.ledger.proofs.Records.{slot-within}
 use Rattle.ledger.proofs.Told.{sound-told, time-told, fresh-told, life-told, found-told, found-place}
 use Rattle.ledger.specs.Checks.{untimely, isCode, expired, taken}
 use Rattle.ledger.specs.Fields.{records, rec, slots, inState, challenge}
@@ -24,7 +23,6 @@ use borrow.Author.Needs.{needs}
 use mathlib.Core.Bool.{true, false}
 use mathlib.Core.List.{List}
 use mathlib.Core.Path.{_≡_, sym, ap, _∙_}
-use native.Mathlib.Omega.{arith}
 use Rattle.token.proofs.token.Tie as tie
 
 abbrev l : tie.Start → List ℕ
