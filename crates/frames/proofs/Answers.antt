@@ -1,10 +1,10 @@
 -- Laws of an answer's bytes. Assumes nothing.
-use Prim.Native.Nat.{ℕ, _+_, _/_, _%_, _≤_, _<_}
+use Prim.Native.Nat.{ℕ, _+_, _/_, _%_, _≤_}
 use native.Mathlib.Omega.{arith}
-use mathlib.Core.Path.{_≡_, refl, sym, ap, _∙_}
+use mathlib.Core.Path.{_≡_, ap, _∙_}
 use mathlib.Core.List.{List, [], _∷_, _++_, append-assoc}
 use lib.ListN.{length, take, drop, length-append, length-take, length-drop}
-use lib.Seq.{take-all, take-append-add, take-at, drop-append-le}
+use lib.Seq.{take-at}
 use Rattle.octets.specs.Numbers.{digits}
 use Rattle.octets.specs.Parts.{blank, put, part}
 use Rattle.octets.proofs.Parts.{put-splice, part-length}
@@ -14,10 +14,10 @@ use Rattle.desk.specs.declared.answer.Swept.{Swept}
 use Rattle.desk.specs.Push.{Outcome, left}
 use Rattle.desk.specs.Limits.{outputLeast}
 use Rattle.desk.specs.Requests.{DecideRequest}
-use Rattle.desk.specs.Decide.{Decision, leftBoth, decide}
+use Rattle.desk.specs.Decide.{leftBoth, decide}
 use Rattle.desk.specs.Sweep.{Sweeping, leftSwept}
 use Rattle.frames.specs.Answers.{answerBytes, decidedBytes, sweptBytes}
-use Rattle.frames.specs.Serve.{Written, written, ofOutcome, ofDecision, ofSweeping}
+use Rattle.frames.specs.Serve.{written, ofOutcome, ofDecision, ofSweeping}
 
 -- two bytes hold a number's lowest sixteen bits
 pub short-digits : (n : ℕ) → digits 2 (n % 65536) ≡ digits 2 n

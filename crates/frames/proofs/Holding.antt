@@ -1,21 +1,19 @@
 -- Laws of a buffer whose front is in use: what a frame writes there, and what stays. Assumes nothing.
 use Prim.Native.Nat.{ℕ, _+_, _*_, _-_, _%_, _≤_, _<_}
 use native.Mathlib.Omega.{arith}
-use mathlib.Core.Path.{_≡_, refl, sym, ap, _∙_}
-use mathlib.Core.Bool.{Bool, true, false, _&&_, cond}
-use mathlib.Core.List.{List, [], _∷_, _++_, append-assoc}
-use lib.Dec.{eqb, leb}
-use lib.ListN.{length, getD, take, drop, length-append, length-take, length-drop, take-append-drop}
+use mathlib.Core.Path.{_≡_, sym, ap, _∙_}
+use mathlib.Core.Bool.{true, false}
+use mathlib.Core.List.{List, _++_, append-assoc}
+use lib.ListN.{length, take, drop, length-append, length-drop, take-append-drop}
 use lib.Seq.{take-all, drop-drop, length-take-le}
 use borrow.Author.Tests.{le-leb, lt-leb, eq-eqb}
-use Rattle.octets.specs.Parts.{laid, put, part, splice}
+use Rattle.octets.specs.Parts.{laid, put, part}
 use Rattle.octets.proofs.Parts.{put-splice, part-length, length-put, length-blank}
 use Rattle.ledger.specs.Sound.{sized}
 use Rattle.desk.specs.Answers.{done, numberOf}
 use Rattle.desk.specs.declared.answer.Refusal.the-variants.{LedgerUnsound, TableUnsound}
 use Rattle.desk.specs.Start.{Started, leftAt, start, fresh}
 use Rattle.frames.specs.declared.kind.Kind.{Kind}
-use Rattle.frames.specs.declared.kind.Kind.the-variants.{NoFrame}
 use Rattle.frames.specs.Hex.{between}
 use Rattle.frames.specs.Kinds.{kindOf, least}
 use Rattle.frames.specs.Calls.{slotCount}

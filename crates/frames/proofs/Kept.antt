@@ -1,11 +1,11 @@
 -- A call keeps the length of the ledger, and a frame keeps ledger and table within the largest size. Assumes nothing.
 use Prim.Native.Nat.{ℕ, zero, suc, _+_, _*_, _≤_, _<_}
 use native.Mathlib.Omega.{arith}
-use mathlib.Core.Path.{_≡_, refl, sym, ap, _∙_}
-use mathlib.Core.Bool.{Bool, true, false, not, _&&_, cond}
+use mathlib.Core.Path.{_≡_, refl}
+use mathlib.Core.Bool.{Bool, true, false, cond}
 use mathlib.Core.List.{List, [], _∷_, _++_}
-use lib.Dec.{eqb, leb}
-use lib.ListN.{length, getD, take, drop, length-append, length-take, length-drop}
+use lib.Dec.{leb}
+use lib.ListN.{length, getD, length-append, length-take, length-drop}
 use borrow.Author.Tests.{not-false, leb-true}
 use Rattle.octets.specs.Lists.{some, place}
 use Rattle.octets.specs.Parts.{part}
@@ -17,14 +17,13 @@ use Rattle.ledger.specs.Write.{pushed, consented, redeemed, free}
 use Rattle.ledger.specs.Sweep.{swept}
 use Rattle.ledger.proofs.Records.{length-records, rec-length, length-with}
 use Rattle.ledger.proofs.Swept.{length-free, length-to}
-use Rattle.desk.specs.Limits.{outputLeast}
 use Rattle.desk.specs.declared.answer.Refusal.{Refusal}
 use Rattle.desk.specs.declared.answer.Refusal.the-variants.{LedgerUnsound}
 use Rattle.desk.specs.declared.resource.Reading.{Reading}
 use Rattle.desk.specs.declared.resource.Reading.the-variants.{Granted, Refused}
 use Rattle.desk.specs.Checks.{Check, _when_, Verdict, accepted, stopped, first}
 use Rattle.desk.specs.Requests.{PushRequest, DecideRequest, TokenRequest, ResourceRequest}
-use Rattle.desk.specs.Push.{Outcome, left, concludes, push, pushChecks, pushAt, pushRecord}
+use Rattle.desk.specs.Push.{Outcome, concludes, push, pushChecks, pushAt, pushRecord}
 use Rattle.desk.specs.Decide.{Decision, concludesBoth, decide, decideChecks, decideAt, consentAt, declineAt, consentRecord, referenceAt}
 use Rattle.desk.specs.Token.{token, tokenChecks, tokenAt, tokenRecord, codeAt}
 use Rattle.desk.specs.Resource.{resource, resourceBy, look}

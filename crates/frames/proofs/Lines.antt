@@ -1,10 +1,9 @@
 -- Laws of bytes in hexadecimal and of a line over the front of a buffer. Assumes nothing.
 use Prim.Native.Nat.{ℕ, suc, _+_, _*_, _≤_, _<_}
 use native.Mathlib.Omega.{arith}
-use native.Mathlib.Numerals.{add-one}
-use mathlib.Core.Path.{_≡_, refl, sym, ap, _∙_}
+use mathlib.Core.Path.{_≡_, sym}
 use mathlib.Core.List.{List, [], _∷_, _++_, append-assoc}
-use lib.ListN.{length, getD, take, drop, set, length-append}
+use lib.ListN.{length, getD, drop, set, length-append}
 use lib.Seq.{take-all, drop-cons, set-append-seam}
 use Rattle.octets.specs.Parts.{laid}
 use Rattle.octets.proofs.Tabulate.{length-tabulate, getD-tabulate}

@@ -5,7 +5,6 @@ use mathlib.Core.Bool.{Bool, true, false, _&&_, cond}
 use mathlib.Core.List.{List, [], _∷_}
 use lib.Dec.{eqb, leb, ltb}
 use lib.ListN.{length, getD, take, drop}
-use Rattle.octets.specs.Numbers.{num}
 use Rattle.octets.specs.Parts.{part}
 use Rattle.forms.specs.Limits.{challengeLength}
 use Rattle.clients.specs.Limits.{clientSize}

@@ -1,6 +1,6 @@
 // The bytes of an answer, written to the front of a buffer; the number of bytes is answered.
 ghost use mathlib.Core.Path.{_≡_};
-ghost use Prim.Native.Nat.{_+_, _≤_, _<_};
+ghost use Prim.Native.Nat.{_+_, _≤_};
 ghost use mathlib.Core.List.{_++_};
 ghost use lib.ListN.{length, take};
 ghost use Rattle.octets.specs.Numbers.{digits};

@@ -1,6 +1,6 @@
 // The calls of the desk, with the fields of their frames.
 ghost use mathlib.Core.Path.{_≡_};
-ghost use Prim.Native.Nat.{_≤_, _<_};
+ghost use Prim.Native.Nat.{_≤_};
 ghost use lib.ListN.{length};
 ghost use Rattle.desk.specs.Push.{left, push};
 ghost use Rattle.desk.specs.Decide.{leftBoth, decide};

@@ -1,7 +1,7 @@
 // Hexadecimal: either case in, lower case out.
 ghost use mathlib.Core.Path.{_≡_};
 ghost use Prim.Native.Nat.{_*_, _+_, _/_, _≤_, _<_};
-ghost use mathlib.Core.Bool.{Bool, true};
+ghost use mathlib.Core.Bool.{true};
 ghost use lib.ListN.{length, take};
 ghost use Rattle.octets.specs.Parts.{laid};
 ghost use Rattle.frames.specs.Limits.{lineMost};

@@ -1,6 +1,6 @@
 // The kinds of frames: each with its byte, and the places of its fields.
 ghost use mathlib.Core.Path.{_≡_};
-ghost use mathlib.Core.Bool.{Bool, true};
+ghost use mathlib.Core.Bool.{true};
 ghost use Prim.Native.Nat.{_≤_, _<_};
 ghost use lib.ListN.{length};
 ghost use Rattle.frames.specs.Kinds.{fits, swornYes, kindOf, least};

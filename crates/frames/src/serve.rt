@@ -1,6 +1,6 @@
 // The calls of the desk with their answers' bytes: a frame's fields in, the ledger rewritten, the answer at the front of a buffer.
 ghost use mathlib.Core.Path.{_≡_};
-ghost use Prim.Native.Nat.{_≤_, _<_};
+ghost use Prim.Native.Nat.{_≤_};
 ghost use lib.ListN.{length, take};
 ghost use Rattle.octets.specs.Parts.{blank};
 ghost use Rattle.desk.specs.Limits.{outputLeast};

@@ -2,7 +2,7 @@
 // ledger and table are kept from call to call; what the output has no room for is not taken yet.
 ghost use mathlib.Core.Path.{_≡_};
 ghost use Prim.Native.Nat.{_+_, _≤_, _<_};
-ghost use mathlib.Core.Bool.{Bool, true};
+ghost use mathlib.Core.Bool.{true};
 ghost use lib.ListN.{length};
 ghost use Rattle.frames.specs.Limits.{answerLine};
 ghost use Rattle.frames.specs.Hex.{lineOf};
