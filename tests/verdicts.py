@@ -2,16 +2,17 @@
 """The verdicts that crates/verdicts must write, from document 01's rules of soundness.
 
   tests/verdicts.py print   the expected lines
-  tests/verdicts.py check   compare crates/verdicts/stdout with them, and each case with the rules
+  tests/verdicts.py check   compare crates/verdicts/stdout with them, each case with the rules, and its bytes with those of the script
 
 A case names its bytes and the one rule of the document that it breaks, or none. Beside the table below each rule stands as a test of bytes,
-so that a case is held to break that rule and no other.
+so that a case is held to break that rule and no other. The script, crates/verdicts/stdin, is read here again, so that the program is
+known to judge these bytes.
 """
 import pathlib
 import re
 import sys
 
-STDOUT = pathlib.Path(__file__).resolve().parent.parent / "crates" / "verdicts" / "stdout"
+VERDICTS = pathlib.Path(__file__).resolve().parent.parent / "crates" / "verdicts"
 
 # ---- The rules, each under its sentence.
 
@@ -248,6 +249,23 @@ def lines():
     return [f"{name} {'unsound' if rule else 'sound'}" for name, _, rule in CASES + TABLE_CASES]
 
 
+def scripted():
+    """What the script has judged: kind, name, bytes."""
+    space, judged = bytes(51488), []
+    for line in (VERDICTS / "stdin").read_text().splitlines():
+        kind, *words = line.split(" ")
+        if kind == "clear":
+            space = bytes(len(space))
+        elif kind in ("put", "ledger", "table"):
+            at = words if kind == "put" else words[2:]
+            parts = [(int(a), w[1:].encode() if w[0] == '"' else bytes.fromhex(w)) for a, w in zip(at[::2], at[1::2])]
+            if kind == "put":
+                space = spoil(space, *parts)
+            else:
+                judged.append((kind, words[1], spoil(space[:int(words[0])], *parts)))
+    return judged
+
+
 def check():
     passed = failed = 0
 
@@ -257,10 +275,12 @@ def check():
         if not good:
             print(f"FAILED: {what}")
 
-    written, wanted = STDOUT.read_text().splitlines(), lines()
+    written, wanted = (VERDICTS / "stdout").read_text().splitlines(), lines()
     hold(f"{len(written)} lines written, {len(wanted)} expected", len(written) == len(wanted))
     for i, line in enumerate(wanted):
         hold(line, i < len(written) and written[i] == line)
+    wanted = [(kind, name, data) for kind, cases in (("ledger", CASES), ("table", TABLE_CASES)) for name, data, _ in cases]
+    hold("the script judges other bytes", scripted() == wanted)
     for rules, cases in ((LEDGER, CASES), (TABLE, TABLE_CASES)):
         for name, data, rule in cases:
             broken = [r for r, test in rules.items() if not test(data)]

@@ -1,8 +1,8 @@
-// One call a line, by the words of the line; ids, keys and values are one letter repeated.
+// One call a line, by the words of the line. Ids, keys and values are one letter repeated; scopes and holders are a digit.
 use super::say;
 use super::table;
 use super::words::begins;
-use super::words::letter;
+use super::words::letters;
 use super::words::number;
 use super::words::rest;
 use super::words::word;
@@ -14,37 +14,35 @@ fn start(line: &[u8], l: &mut [u8]) {
     say::number(line, n, l);
 }
 
-fn bits(line: &[u8], n: usize) -> u32 {
-    (number(line, n) % 0x1_0000_0000) as u32
-}
-
-// name, time, how many clients the table has, client, key, scope, fresh value, challenge, redirect
+// name, time; how many clients the table has, client, key, scope, fresh value; challenge, redirect
 fn push(line: &[u8], l: &mut [u8]) {
+    let w = letters(line);
     let t = table::three();
     let a = push::push(
         l,
         number(line, 1),
-        cut(&t, 0, letter(line, 2) as usize * 64),
-        &[letter(line, 3); 16],
-        &[letter(line, 4); 32],
-        bits(line, 5),
+        cut(&t, 0, (w[0] as usize) << 6),
+        &[w[1]; 16],
+        &[w[2]; 32],
+        w[3] as u32,
         word(line, 7),
         rest(line, 8),
-        &[letter(line, 6); 32],
+        &[w[4]; 32],
     );
     say::answer(line, a, l);
 }
 
-// name, time, reference, client, yes or no, holder, fresh value
+// name, time; reference, client, yes or no, holder, fresh value
 fn decide_into(line: &[u8], l: &mut [u8], out: &mut [u8]) {
+    let w = letters(line);
     let d = decide::decide(
         l,
         number(line, 1),
-        &[letter(line, 2); 32],
-        &[letter(line, 3); 16],
-        same(word(line, 4), b"yes"),
-        number(line, 5),
-        &[letter(line, 6); 32],
+        &[w[0]; 32],
+        &[w[1]; 16],
+        w[2] == b'y',
+        w[3] as u64,
+        &[w[4]; 32],
         out,
     );
     say::decided(line, d, out, l);
@@ -61,32 +59,34 @@ fn decide(line: &[u8], l: &mut [u8]) {
     decide_into(line, l, &mut out);
 }
 
-// name, time, how many clients the table has, client, key, presented key, code, fresh value, verifier
+// name, time; how many clients the table has, client, key, presented key, code, fresh value; verifier
 fn token(line: &[u8], l: &mut [u8]) {
+    let w = letters(line);
     let t = table::three();
     let a = token::token(
         l,
         number(line, 1),
-        cut(&t, 0, letter(line, 2) as usize * 64),
-        &[letter(line, 3); 16],
-        &[letter(line, 4); 32],
-        &[letter(line, 5); 32],
-        &[letter(line, 6); 32],
+        cut(&t, 0, (w[0] as usize) << 6),
+        &[w[1]; 16],
+        &[w[2]; 32],
+        &[w[3]; 32],
+        &[w[4]; 32],
         rest(line, 8),
-        &[letter(line, 7); 32],
+        &[w[5]; 32],
     );
     say::answer(line, a, l);
 }
 
-// name, time, token, presented key, scope, holder
+// name, time; token, presented key, scope, holder
 fn resource(line: &[u8], l: &mut [u8]) {
+    let w = letters(line);
     let a = resource::resource(
         l,
         number(line, 1),
-        &[letter(line, 2); 32],
-        &[letter(line, 3); 32],
-        bits(line, 4),
-        number(line, 5),
+        &[w[0]; 32],
+        &[w[1]; 32],
+        w[2] as u32,
+        w[3] as u64,
     );
     say::answer(line, a, l);
 }

@@ -70,6 +70,18 @@ pub fn letter(line: &[u8], n: usize) -> u8 {
     octet(s[0])
 }
 
+// The letters of words 2 to 7, which stand behind the name and the time.
+pub fn letters(line: &[u8]) -> [u8; 6] {
+    [
+        letter(line, 2),
+        letter(line, 3),
+        letter(line, 4),
+        letter(line, 5),
+        letter(line, 6),
+        letter(line, 7),
+    ]
+}
+
 fn tenfold(n: u64, digit: u8) -> u64 {
     std::num::wrapping_add_u64(
         std::num::wrapping_add_u64(n << 3, n << 1),

@@ -1,22 +1,24 @@
-// Writes the verdicts of checks 1 and 3 on ledgers and client tables that are made by hand: sound ones, and each spoiled in one way.
-// A line is a name and a verdict. The expected lines are those of another program, tests/verdicts.py, which has them from document 01's rules.
+// Writes the verdicts of checks 1 and 3 on ledgers and client tables that a script makes by hand: sound ones, and each spoiled in one way.
+// The script is the file stdin. A line is a name and a verdict; the expected lines are those of another program, tests/verdicts.py, which has them
+// from document 01's rules.
+mod bytes;
 mod judge;
-mod ledgers;
-mod make;
-mod tables;
+mod words;
+
+use libc::STDIN_FILENO;
+
+fn play(script: &[u8], space: &mut [u8]) {
+    let mut at = 0;
+    while at < script.len() {
+        let line = words::line(script, at);
+        judge::turn(line, space);
+        at += line.len() + 1;
+    }
+}
 
 fn main() {
-    ledgers::sizes();
-    ledgers::heads();
-    ledgers::states();
-    ledgers::gaps();
-    ledgers::numbers();
-    ledgers::parties();
-    ledgers::challenges();
-    ledgers::redirects();
-    ledgers::holders();
-    ledgers::tokens();
-    ledgers::pool();
-    tables::sizes();
-    tables::records();
+    let mut script = io::large_buffer();
+    let n = io::read_full(STDIN_FILENO, &mut script);
+    let mut space = [0u8; 51488];
+    play(&script[..n], &mut space);
 }

@@ -1,24 +1,22 @@
 use Prim.Native.Nat.{_≤_, _-_}
-use Rattle.verdicts.proofs.make.fill.Statement.{statement}
+use Rattle.verdicts.proofs.bytes.hex.Statement.{statement}
 use borrow.Author.Needs.{needs}
 use lib.ListN.{length}
 use mathlib.Core.Path.{_≡_}
-use Rattle.verdicts.proofs.make.fill.Tie as tie
+use Rattle.verdicts.proofs.bytes.hex.Tie as tie
 
 abbrev Inv-loop : tie.InvT-loop
-Inv-loop t₀ k₀ t3 t k = (k ≤ 65) × (length t ≡ length t₀)
+Inv-loop s₀ w i₀ s i = (i ≤ length w) × (length s ≡ length s₀)
 
 abbrev μ-loop : tie.MeasureT-loop
-μ-loop t₀ k₀ t3 t k = 65 - k
+μ-loop s₀ w i₀ s i = length w - i
 
-pub fill-spec : {M : Type 1} → statement M
-fill-spec =
+pub hex-spec : {M : Type 1} → statement M
+hex-spec =
     tie.close
     (tie.spec
     Inv-loop
     μ-loop
-    (search needs)
-    (search needs)
     (search needs)
     (search needs)
     (search needs)
