@@ -1,7 +1,7 @@
 #!/usr/bin/env python3
 """Feeds a line program the same stream through a pipe in small pieces, and waits for each answer: tests/pipes.py PROGRAM
 
-However the input is cut, the output is the one of the whole file; and an answer comes before more input is sent.
+However the input is cut, the output is the one of the whole file; and an answer comes before more input is sent. A failed read or write ends it.
 """
 import fcntl
 import os
@@ -63,6 +63,18 @@ def answer_by_answer(program, lines, expected):
             process.wait(PATIENCE)
 
 
+def ends(program, **streams):
+    """Whether it ends by itself, though its input stays open."""
+    with subprocess.Popen(program, bufsize=0, **streams) as process:
+        if process.stdin:
+            os.write(process.stdin.fileno(), b"\n")
+        try:
+            return process.wait(PATIENCE) is not None
+        except subprocess.TimeoutExpired:
+            process.kill()
+            return False
+
+
 def read_line(pipe):
     line = b""
     while not line.endswith(b"\n") and select.select([pipe], [], [], PATIENCE)[0]:
@@ -94,6 +106,11 @@ def main():
             check(f"stream {index} in pieces of {size}", in_pieces(program, text, size) == expected)
         check(f"stream {index}, answer by answer", answer_by_answer(program, lines, answers))
     check("no input, no answer", in_pieces(program, b"", 1) == b"")
+    with open("/dev/full", "wb") as full:
+        check("a failed write ends it", ends(program, stdin=subprocess.PIPE, stdout=full))
+    folder = os.open("/", os.O_RDONLY)
+    check("a failed read ends it", ends(program, stdin=folder, stdout=subprocess.DEVNULL))
+    os.close(folder)
     print(f"{sum(results)} passed, {len(results) - sum(results)} failed")
     return 0 if all(results) else 1
 

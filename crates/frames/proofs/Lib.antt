@@ -7,3 +7,4 @@ pub mod Asked
 pub mod Holding
 pub mod Kept
 pub mod Fitting
+pub mod Exact

@@ -2,4 +2,7 @@
 pub mod Said
 pub mod Feeding
 pub mod Turning
+pub mod Going
+pub mod Bytes
+pub mod Chunks
 pub mod Whole

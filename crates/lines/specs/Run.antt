@@ -15,7 +15,7 @@ use Rattle.lines.specs.Feed.{Left, feed, finish}
 abbrev pub puts : Left → List ℕ
 puts l = take (l .filled) (l .out)
 
--- what the program does between two reads: what is kept, the output's buffer, and all that was written
+-- where the program stands: what is kept, the output's buffer, and all that was written
 pub record Passed : Type 0 where
   pub held : Held
   pub out : List ℕ
@@ -62,11 +62,13 @@ pub record Buffers (line ledger table out : List ℕ) : Type 0 where
   pub tableSized : length table ≡ tableMost
   pub roomy : answerLine ≤ length out
 
+-- for every input, and every way of cutting it into chunks
 abbrev pub WholeRun : Type 0
 WholeRun =
     (line ledger table out : List ℕ) (chunks : List (List ℕ)) → Buffers line ledger table out
     → session (held (lengths 0 0 0) line ledger table) out chunks ≡ run (joined chunks)
 
+-- and before each read: the lines that have come to their LF are answered, and nothing else is written
 abbrev pub AtOnce : Type 0
 AtOnce =
     (line ledger table out : List ℕ) (chunks : List (List ℕ)) → Buffers line ledger table out

@@ -40,6 +40,7 @@ pub struct Fed {
     pub filled: usize,
 }
 
+// A call that does nothing.
 fn nothing(s: State) -> Fed
     ensures { λ r. ⌜ (r .state ≡ s) × ((r .taken ≡ 0) × (r .filled ≡ 0)) ⌝ }
 {
@@ -50,11 +51,13 @@ fn nothing(s: State) -> Fed
     }
 }
 
+// What one byte leaves: the lengths, and how far the output is filled.
 struct Turned {
     state: State,
     filled: usize,
 }
 
+// Whether the buffers have their sizes, with the lengths within them.
 fn fits(s: State, line: &[u8], ledger: &[u8], table: &[u8]) -> bool
     ensures { λ r. ⌜ r ≡ fits (held s (now (line .entry)) (now (ledger .entry)) (now (table .entry))) ⌝ }
 {

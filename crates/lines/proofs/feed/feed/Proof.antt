@@ -1,6 +1,6 @@
 use Prim.Native.Nat.{_-_}
 use Rattle.lines.proofs.Feeding.{to-fits}
-use Rattle.lines.proofs.Turning.{Going, going-none, going-more, going-all, going-full, unfed}
+use Rattle.lines.proofs.Going.{Going, going-none, going-more, going-all, going-full, unfed}
 use Rattle.lines.proofs.feed.feed.Statement.{statement}
 use Rattle.lines.specs.Turn.{Held, held}
 use borrow.Author.Needs.{needs}

@@ -1,4 +1,4 @@
-use Rattle.lines.proofs.Turning.{unfitting, unbegun, roomless, finished}
+use Rattle.lines.proofs.Going.{unfitting, unbegun, roomless, finished}
 use Rattle.lines.proofs.feed.finish.Statement.{statement}
 use Rattle.lines.specs.Turn.{Held, held, fits}
 use borrow.Author.Needs.{needs}
