@@ -48,7 +48,7 @@ fn decide_into(line: &[u8], l: &mut [u8], out: &mut [u8]) {
     say::decided(line, d, out, l);
 }
 
-// With room for the redirect and two bytes more, or where the line ends in the word short for one byte less than the redirect.
+// With room for 64 bytes and two more, or where the line ends in the word short for one byte less than 64.
 fn decide(line: &[u8], l: &mut [u8]) {
     if same(word(line, 7), b"short") {
         let mut short = [b'.'; 63];
