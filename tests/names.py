@@ -12,7 +12,7 @@ from pathlib import Path
 
 TOP = Path(__file__).resolve().parent.parent
 PAGE = "docs/PROMISES.md"
-CITATION = re.compile(r"`((?:crates|docs|tests|second|tools)/[^`:\s]+)(?::\s*([^`]+))?`(?: line (\d+))?")
+CITATION = re.compile(r"`((?:crates|docs|tests|second|tools|include|bindings|bench)/[^`:\s]+)(?::\s*([^`]+))?`(?: line (\d+))?")
 
 ANTT_COMMENT = re.compile(r"(?<!\S)--[^\n]*|\{-.*?-\}", re.S)
 RATTLE_COMMENT = re.compile(r"//[^\n]*")
