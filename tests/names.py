@@ -12,7 +12,7 @@ from pathlib import Path
 
 TOP = Path(__file__).resolve().parent.parent
 PAGES = ["docs/PROMISES.md", "docs/OUTCOMES.md", "docs/READING.md", "docs/TRUST.md", "README.md"]
-CITATION = re.compile(r"`((?:crates|docs|tests|second|tools)/[^`:\s]+)(?::\s*([^`]+))?`(?: line (\d+))?")
+CITATION = re.compile(r"`((?:crates|docs|tests|second|tools|include|bindings|bench)/[^`:\s]+)(?::\s*([^`]+))?`(?: line (\d+))?")
 
 BLOCK = re.compile(r"^```antt (\S+)\n(.*?)^```$", re.S | re.M)
 

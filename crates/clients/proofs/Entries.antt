@@ -1,5 +1,5 @@
 -- Laws of the client records in table order, and of the loops over them. Assumes nothing.
-use Prim.Native.Nat.{ℕ, suc, _+_, _*_, _<_, _≤_}
+use Prim.Native.Nat.{ℕ, suc, _+_, _-_, _*_, _<_, _≤_}
 use native.Mathlib.Omega.{arith}
 use mathlib.Core.Path.{_≡_, sym, ap, _∙_}
 use mathlib.Core.Bool.{Bool, true, false}
@@ -14,7 +14,7 @@ use Rattle.octets.proofs.Numbers.{num-none}
 use Rattle.octets.proofs.Parts.{part-length}
 use Rattle.octets.proofs.Tabulate.{length-tabulate, getD-tabulate}
 use Rattle.clients.specs.Limits.{clientSize}
-use Rattle.clients.specs.Fields.{clients, client, entries, permitted}
+use Rattle.clients.specs.Fields.{clients, client, entries, id, permitted}
 
 pub length-entries : (t : List ℕ) → length (entries t) ≡ clients t
 unfolding entries
@@ -32,6 +32,13 @@ client-length t k h = part-length t (clientSize * k) clientSize (omega arith)
 -- so each field inside it has its width
 pub field-length : (t : List ℕ) (k : ℕ) → k < clients t → (a n : ℕ) → a + n ≤ clientSize → length (part (client t k) a n) ≡ n
 field-length t k h a n w = part-length (client t k) a n (rw (client-length t k h) w)
+
+-- the id begins its record, so that it can be read off the table
+pub id-stands : (t : List ℕ) (k : ℕ) → part t (clientSize * k) (clientSize * k + 16 - clientSize * k) ≡ id (client t k)
+unfolding client
+id-stands t k =
+    let e : clientSize * k + 16 - clientSize * k ≡ 16 = omega arith in
+    rw e (sym (take-take 16 clientSize (drop (clientSize * k) t) (omega arith)))
 
 -- past the last record there are no bytes, and nothing is permitted
 pub client-none : (t : List ℕ) (k : ℕ) → clients t < k → client t k ≡ []

@@ -2,7 +2,8 @@
 ghost use mathlib.Core.Path.{_≡_};
 ghost use Rattle.octets.specs.Lists.{every};
 ghost use Rattle.clients.specs.Limits.{leastClients, mostClients};
-ghost use Rattle.clients.specs.Fields.{entries};
+ghost use Prim.Native.Nat.{_<_};
+ghost use Rattle.clients.specs.Fields.{clients, client, entries, id};
 ghost use Rattle.clients.specs.Sound.{lengthRight, soundRecord, idsDistinct, checkTable};
 use super::record;
 use super::record::Client;
@@ -73,6 +74,15 @@ fn sound_records(table: &[u8]) -> bool
     true
 }
 
+// The id of record k, which it begins with, read where it stands.
+fn id_at(table: &[u8], k: usize) -> &[u8]
+    requires { ⌜ k < clients (now table) ⌝ }
+    ensures { λ r. ⌜ now r ≡ id (client (now (table .entry)) k) ⌝ }
+{
+    let a = Client::SIZE * k;
+    &table[a..a + Field::ID_SIZE]
+}
+
 // Each pair of records is looked at, up to the first clash.
 fn ids_distinct(table: &[u8]) -> bool
     ensures { λ r. ⌜ r ≡ idsDistinct (now (table .entry)) ⌝ }
@@ -81,13 +91,10 @@ fn ids_distinct(table: &[u8]) -> bool
     let mut clash = false;
     let mut i = 0;
     'search: while i < n {
-        let id = cut(record::client_at(table, i), Field::ID, Field::ID_SIZE);
+        let id = id_at(table, i);
         let mut j = i + 1;
         while j < n {
-            if same(
-                id,
-                cut(record::client_at(table, j), Field::ID, Field::ID_SIZE),
-            ) {
+            if same(id, id_at(table, j)) {
                 clash = true;
                 break 'search;
             }

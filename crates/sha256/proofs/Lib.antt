@@ -3,3 +3,4 @@ pub mod Digits
 pub mod Padding
 pub mod Words
 pub mod Digests
+pub mod Turns

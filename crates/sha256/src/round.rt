@@ -1,5 +1,7 @@
 // A round (FIPS 180-4, section 6.2.2, step 3), and the sixty-four rounds on a schedule.
 ghost use mathlib.Core.Path.{_≡_};
+ghost use Prim.Native.Nat.{_+_, _≤_};
+ghost use Rattle.sha256.specs.declared.round.Working.{Working};
 ghost use Rattle.sha256.specs.Constants.{K};
 ghost use Rattle.sha256.specs.Round.{T1, T2, round, rounds};
 use super::word::big0;
@@ -124,6 +126,17 @@ fn constants() -> [u32; 64]
     K
 }
 
+// Four rounds, from round t on: in a row, so that the words are moved from variable to variable once and not four times.
+fn four(k: &[u32; 64], w: &[u32; 64], t: usize, s: Working) -> Working
+    requires { ⌜ t + 4 ≤ 64 ⌝ }
+    ensures { λ r. ⌜ ((s₀ : Working) → now (k .entry) ≡ K → s ≡ rounds (now (w .entry)) s₀ t → r ≡ rounds (now (w .entry)) s₀ (t + 4)) ⌝ }
+{
+    let s1 = round(k[t], w[t], s);
+    let s2 = round(k[t + 1], w[t + 1], s1);
+    let s3 = round(k[t + 2], w[t + 2], s2);
+    round(k[t + 3], w[t + 3], s3)
+}
+
 pub fn rounds(w: &[u32; 64], s: Working) -> Working
     ensures { λ r. ⌜ r ≡ rounds (now (w .entry)) s 64 ⌝ }
 {
@@ -131,8 +144,8 @@ pub fn rounds(w: &[u32; 64], s: Working) -> Working
     let mut x = s;
     let mut t = 0;
     while t < 64 {
-        x = round(k[t], w[t], x);
-        t += 1;
+        x = four(&k, w, t, x);
+        t += 4;
     }
     x
 }

@@ -36,17 +36,17 @@ loop-holds c = (refl, search needs, search needs, search needs)
 loop-again : tie.Need-loop-again Inv-loop μ-loop Inv-search μ-search
 unfolding sameId
 loop-again c =
-    let l = c .before .before .before .before .before .loop in
-    let i = c .before .before .before .before .before .before .before .before .before .search .i in
-    let t = c .before .before .before .before .before .before .before .before .before .before .before .before .args .table .now in
+    let l = c .before .before .before .before .loop in
+    let i = c .before .before .before .before .before .before .before .search .i in
+    let t = c .before .before .before .before .before .before .before .before .before .before .args .table .now in
     let e : sameId (client t i) (client t (l .j)) ≡ false = cc in
     (l .inv .0 ∙ clash-miss t (l .j) (omega arith) (sameId (client t i)) e, search needs, search needs, l .inv .3)
 
 search-again : tie.Need-search-again Inv-loop μ-loop Inv-search μ-search
 search-again c =
     let l = c .before .loop in
-    let s = c .before .before .before .before .before .search in
-    let t = c .before .before .before .before .before .before .before .before .args .table .now in
+    let s = c .before .before .before .before .search in
+    let t = c .before .before .before .before .before .before .before .args .table .now in
     let e = clash-end t (l .j) (omega arith) (sameId (client t (s .i))) in
     (search needs, l .inv .3, s .inv .2 ∙ pairs-miss t (s .i) (omega arith) sameId (l .inv .0 ∙ e))
 
@@ -58,9 +58,9 @@ returns c =
     ⊎-elim
     (λ w. ap not (w .1 ∙ s .inv .1) ∙ sym (s .inv .2 ∙ pairs-end t (s .i) (omega arith) sameId))
     (λ w.
-    let e : sameId (client t (s .i)) (client t (w .3 .j)) ≡ true = cc in
-    ap not (w .9)
-    ∙ sym (s .inv .2 ∙ pairs-hit t (s .i) (omega arith) sameId (w .3 .inv .0 ∙ clash-hit t (w .3 .j) (omega arith) (sameId (client t (s .i))) e)))
+    let e : sameId (client t (s .i)) (client t (w .2 .j)) ≡ true = cc in
+    ap not (w .7)
+    ∙ sym (s .inv .2 ∙ pairs-hit t (s .i) (omega arith) sameId (w .2 .inv .0 ∙ clash-hit t (w .2 .j) (omega arith) (sameId (client t (s .i))) e)))
     (c .search-test .came)
 
 pub ids-distinct-spec : {M : Type 1} → statement M
@@ -75,9 +75,7 @@ ids-distinct-spec =
     search-holds
     (search needs)
     (search needs)
-    (search needs)
     loop-holds
-    (search needs)
     (search needs)
     (search needs)
     (search needs)

@@ -1,0 +1,302 @@
+//! The permissions desk's six calls for a web front, over the archive that `rt staticlib front` writes.
+//!
+//! The ledger is lent: a [`Ledger`] borrows its bytes for as long as it writes to them, so that one ledger has one writer.
+//! Every call checks for itself what it reads, and ends with an answer or a [`Refusal`]; a refusal has changed nothing.
+//! What the front must have checked before a call is said at that call's request. docs/FRONT.md says how to keep the bytes.
+//!
+//! ```compile_fail
+//! let mut bytes = [0; perdigolh::ledger_bytes(1)];
+//! let mut one = perdigolh::Ledger::lent(&mut bytes);
+//! let mut two = perdigolh::Ledger::lent(&mut bytes); // a second writer
+//! let _ = one.sweep(1);
+//! ```
+
+use std::fmt;
+
+pub mod raw;
+mod refusal;
+
+pub use refusal::Refusal;
+
+/// Bytes before the first record of a ledger.
+pub const LEDGER_HEAD: usize = 32;
+/// Bytes of a ledger's record.
+pub const LEDGER_RECORD: usize = 256;
+/// The fewest and the most records of a ledger.
+pub const LEDGER_LEAST: usize = 1;
+pub const LEDGER_MOST: usize = 200;
+/// Bytes of a client's record in the table, and the most clients.
+pub const CLIENT_SIZE: usize = 64;
+pub const TABLE_MOST: usize = 64;
+/// The fewest bytes of decide's output.
+pub const OUTPUT_LEAST: usize = 64;
+/// Seconds that a reference, a code and a token live.
+pub const REFERENCE_LIFETIME: u64 = 599;
+pub const CODE_LIFETIME: u64 = 60;
+pub const TOKEN_LIFETIME: u64 = 300;
+
+const YES: u8 = 1;
+const NO: u8 = 0;
+
+/// The bytes of a ledger with this many records.
+pub const fn ledger_bytes(records: usize) -> usize {
+    LEDGER_HEAD + records * LEDGER_RECORD
+}
+
+/// The bytes of a table with this many clients.
+pub const fn table_bytes(clients: usize) -> usize {
+    clients * CLIENT_SIZE
+}
+
+/// A client's id, as the table has it.
+#[derive(Clone, Copy, Debug, PartialEq, Eq, Hash)]
+pub struct ClientId(pub [u8; 16]);
+
+/// The thumbprint of a key that the front has verified.
+#[derive(Clone, Copy, Debug, PartialEq, Eq, Hash)]
+pub struct Key(pub [u8; 32]);
+
+macro_rules! values {
+    ($($(#[$words:meta])* $name:ident;)*) => {$(
+        $(#[$words])*
+        #[derive(Clone, Copy, PartialEq, Eq, Hash)]
+        pub struct $name(pub [u8; 32]);
+
+        impl fmt::Debug for $name {
+            /// Its bytes are a secret, and are not shown.
+            fn fmt(&self, to: &mut fmt::Formatter<'_>) -> fmt::Result {
+                to.write_str(concat!(stringify!($name), "(..)"))
+            }
+        }
+    )*};
+}
+
+values! {
+    /// What a pushed request stands under until the holder decides. It opens nothing.
+    Reference;
+    /// What a consented request stands under until it is redeemed.
+    Code;
+    /// What opens a reading, together with the key that it is bound to.
+    Token;
+}
+
+/// A client's record in the table: id, authentication key, permitted scope bits.
+pub fn client_record(id: ClientId, key: Key, permitted: u32) -> [u8; CLIENT_SIZE] {
+    let mut record = [0; CLIENT_SIZE];
+    record[..16].copy_from_slice(&id.0);
+    record[16..48].copy_from_slice(&key.0);
+    record[48..52].copy_from_slice(&permitted.to_be_bytes());
+    record
+}
+
+/// What push, token and resource answer, as the record has it after the call.
+#[derive(Clone, Copy, Debug, PartialEq, Eq)]
+pub struct Answer {
+    /// The grant number: the name of this one permission, for good.
+    pub grant: u64,
+    pub holder: u64,
+    pub scope: u32,
+    /// The first second at which the record is expired.
+    pub expiry: u64,
+}
+
+/// What decide answers. After a no: the grant number, the holder given, scope 0, expiry 0.
+#[derive(Clone, Copy, Debug, PartialEq, Eq)]
+pub struct Decided {
+    pub answer: Answer,
+    /// How many bytes at the front of the output are the redirect.
+    pub redirect_length: usize,
+}
+
+/// What sweep answers: the records freed, by the state that they were in.
+#[derive(Clone, Copy, Debug, PartialEq, Eq)]
+pub struct Swept {
+    pub pushed: usize,
+    pub consented: usize,
+    pub redeemed: usize,
+}
+
+/// A buyer's program leaves its request. The front has checked before that the program holds the private key of `key`.
+#[derive(Clone, Copy, Debug)]
+pub struct Push<'a> {
+    pub client: ClientId,
+    pub key: Key,
+    pub scope: u32,
+    pub challenge: &'a [u8],
+    pub redirect: &'a [u8],
+    /// The reference from then on: 32 bytes of the front's random source, drawn for this call.
+    pub fresh: Reference,
+}
+
+/// The holder's choice.
+#[derive(Clone, Copy, Debug)]
+pub enum Choice {
+    /// Allowed once. The value is the code from then on: 32 bytes of the front's random source, drawn for this call.
+    Yes(Code),
+    No,
+}
+
+/// The holder decides on a request. The front has checked before that `holder` is the person who has logged in, and that it is
+/// she who chose, seeing this request.
+#[derive(Clone, Copy, Debug)]
+pub struct Decide {
+    pub reference: Reference,
+    pub client: ClientId,
+    pub choice: Choice,
+    pub holder: u64,
+}
+
+/// The program redeems its code. The front has checked before that it holds the private keys of `key` and of `presented`.
+#[derive(Clone, Copy, Debug)]
+pub struct Redeem<'a> {
+    pub client: ClientId,
+    pub key: Key,
+    /// The key that the token is bound to.
+    pub presented: Key,
+    pub code: Code,
+    pub verifier: &'a [u8],
+    /// The token from then on: 32 bytes of the front's random source, drawn for this call.
+    pub fresh: Token,
+}
+
+/// The program reads. The front has checked before that it holds the private key of `presented`.
+#[derive(Clone, Copy, Debug)]
+pub struct Read {
+    pub token: Token,
+    pub presented: Key,
+    /// The bits that this reading needs, and the holder whose figures they are.
+    pub scope: u32,
+    pub holder: u64,
+}
+
+/// A ledger's bytes, lent to their one writer.
+#[derive(Debug)]
+pub struct Ledger<'a>(&'a mut [u8]);
+
+impl<'a> Ledger<'a> {
+    /// Makes a ledger of zeros with next grant number 1, whatever the bytes held before.
+    pub fn start(bytes: &'a mut [u8]) -> Result<Self, Refusal> {
+        // SAFETY: the pointer and the length are those of a slice that nobody else holds.
+        let number = unsafe { raw::perdigolh_start(bytes.as_mut_ptr(), bytes.len()) };
+        done(number).map(|()| Ledger(bytes))
+    }
+
+    /// A ledger that was started before. Nothing is looked at here: every call checks the bytes for itself.
+    pub fn lent(bytes: &'a mut [u8]) -> Self {
+        Ledger(bytes)
+    }
+
+    pub fn bytes(&self) -> &[u8] {
+        self.0
+    }
+
+    /// Checks 1, 2, 3, 4, 5, 6, 7, 8, 9; then the first free record stands under the fresh reference.
+    pub fn push(&mut self, time: u64, table: &[u8], request: &Push) -> Result<Answer, Refusal> {
+        // SAFETY: every pointer is a reference's or a slice's with its length, and the ledger is borrowed alone.
+        let answer = unsafe {
+            raw::perdigolh_push(
+                self.0.as_mut_ptr(),
+                self.0.len(),
+                time,
+                table.as_ptr(),
+                table.len(),
+                &request.client.0,
+                &request.key.0,
+                request.scope,
+                request.challenge.as_ptr(),
+                request.challenge.len(),
+                request.redirect.as_ptr(),
+                request.redirect.len(),
+                &request.fresh.0,
+            )
+        };
+        answered(answer)
+    }
+
+    /// Checks 1, 2, 20, 10, 11, 12, and on yes 7. Then the redirect stands in the first 64 bytes of the output, with zeros behind
+    /// it; on yes the record stands under the fresh code, on no it is free.
+    pub fn decide(&mut self, time: u64, request: &Decide, output: &mut [u8]) -> Result<Decided, Refusal> {
+        let (yes, fresh) = match request.choice {
+            Choice::Yes(Code(fresh)) => (YES, fresh),
+            Choice::No => (NO, [0; 32]), // not looked at
+        };
+        // SAFETY: as at push; ledger and output are borrowed alone.
+        let decided = unsafe {
+            raw::perdigolh_decide(
+                self.0.as_mut_ptr(),
+                self.0.len(),
+                time,
+                &request.reference.0,
+                &request.client.0,
+                yes,
+                request.holder,
+                &fresh,
+                output.as_mut_ptr(),
+                output.len(),
+            )
+        };
+        let answer = answered(decided.answer)?;
+        Ok(Decided { answer, redirect_length: decided.length.into() })
+    }
+
+    /// Checks 1, 2, 3, 4, 13, 5, then 14 or 15, 11, 16, 7; then the record has the fresh token, bound to the presented key.
+    pub fn token(&mut self, time: u64, table: &[u8], request: &Redeem) -> Result<Answer, Refusal> {
+        // SAFETY: as at push.
+        let answer = unsafe {
+            raw::perdigolh_token(
+                self.0.as_mut_ptr(),
+                self.0.len(),
+                time,
+                table.as_ptr(),
+                table.len(),
+                &request.client.0,
+                &request.key.0,
+                &request.presented.0,
+                &request.code.0,
+                request.verifier.as_ptr(),
+                request.verifier.len(),
+                &request.fresh.0,
+            )
+        };
+        answered(answer)
+    }
+
+    /// Checks 1, 2, 17, 11, 18, 6, 19; then the reading is granted, and only the clock changes. The answer's scope is the one
+    /// that was granted.
+    pub fn resource(&mut self, time: u64, request: &Read) -> Result<Answer, Refusal> {
+        // SAFETY: as at push.
+        let answer = unsafe {
+            raw::perdigolh_resource(
+                self.0.as_mut_ptr(),
+                self.0.len(),
+                time,
+                &request.token.0,
+                &request.presented.0,
+                request.scope,
+                request.holder,
+            )
+        };
+        answered(answer)
+    }
+
+    /// Checks 1, 2; then every expired record is free.
+    pub fn sweep(&mut self, time: u64) -> Result<Swept, Refusal> {
+        // SAFETY: as at push.
+        let swept = unsafe { raw::perdigolh_sweep(self.0.as_mut_ptr(), self.0.len(), time) };
+        done(swept.number)?;
+        Ok(Swept { pushed: swept.pushed, consented: swept.consented, redeemed: swept.redeemed })
+    }
+}
+
+fn answered(answer: raw::Answer) -> Result<Answer, Refusal> {
+    done(answer.number)?;
+    Ok(Answer { grant: answer.grant, holder: answer.holder, scope: answer.scope, expiry: answer.expiry })
+}
+
+fn done(number: u8) -> Result<(), Refusal> {
+    match (number, Refusal::of(number)) {
+        (0, _) => Ok(()),
+        (_, Some(refusal)) => Err(refusal),
+        (_, None) => unreachable!("a number that is not in the table"),
+    }
+}

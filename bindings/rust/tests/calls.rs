@@ -1,0 +1,276 @@
+//! Whole grants and every refusal through the safe calls; the numbers expected are document 01's.
+
+use perdigolh::*;
+
+const VERIFIER: &[u8] = b"dBjftJeZ4CVP-mB92K27uhbUJU1p1r_wW1gFWFOEjXk";
+const CHALLENGE: &[u8] = b"E9Melhoa2OwvFrEMTJguCHaoeK1t8URWbuGJSstw-cM";
+const BUYER: ClientId = ClientId([0xa1; 16]);
+const OTHER: ClientId = ClientId([0xb1; 16]);
+const KEY: Key = Key([0xa2; 32]);
+const BOUND: Key = Key([0xee; 32]);
+const REFERENCE: Reference = Reference([0x11; 32]);
+const CODE: Code = Code([0x22; 32]);
+const TOKEN: Token = Token([0x33; 32]);
+const HOLDER: u64 = 7;
+
+const PUSH: Push =
+    Push { client: BUYER, key: KEY, scope: 4, challenge: CHALLENGE, redirect: b"https://a", fresh: REFERENCE };
+const YES: Decide = Decide { reference: REFERENCE, client: BUYER, choice: Choice::Yes(CODE), holder: HOLDER };
+const NO: Decide = Decide { choice: Choice::No, ..YES };
+const REDEEM: Redeem =
+    Redeem { client: BUYER, key: KEY, presented: BOUND, code: CODE, verifier: VERIFIER, fresh: TOKEN };
+const READ: Read = Read { token: TOKEN, presented: BOUND, scope: 4, holder: HOLDER };
+
+/// A started ledger of two records with a table of two clients, brought as far as asked.
+struct World {
+    bytes: Vec<u8>,
+    table: Vec<u8>,
+    output: Vec<u8>,
+}
+
+#[derive(PartialEq, PartialOrd)]
+enum Far {
+    Started,
+    Pushed,
+    Consented,
+    Redeemed,
+}
+
+impl World {
+    fn at(far: Far) -> World {
+        let mut bytes = vec![0xff; ledger_bytes(2)];
+        Ledger::start(&mut bytes).unwrap();
+        let mut table = client_record(BUYER, KEY, 5).to_vec();
+        table.extend(client_record(OTHER, KEY, 5));
+        let mut world = World { bytes, table, output: vec![0xcc; OUTPUT_LEAST + 6] };
+        if far >= Far::Pushed {
+            world.push(1000, PUSH).unwrap();
+        }
+        if far >= Far::Consented {
+            world.decide(1000, YES).unwrap();
+        }
+        if far >= Far::Redeemed {
+            world.token(1059, REDEEM).unwrap();
+        }
+        world
+    }
+
+    /// Makes a call; a refusal must leave ledger and output as they were.
+    fn call<T>(
+        &mut self,
+        call: impl FnOnce(&mut Ledger, &[u8], &mut [u8]) -> Result<T, Refusal>,
+    ) -> Result<T, Refusal> {
+        let before = (self.bytes.clone(), self.output.clone());
+        let result = call(&mut Ledger::lent(&mut self.bytes), &self.table, &mut self.output);
+        if result.is_err() {
+            assert!(before == (self.bytes.clone(), self.output.clone()), "a refusal changed something");
+        }
+        result
+    }
+
+    fn push(&mut self, time: u64, request: Push) -> Result<Answer, Refusal> {
+        self.call(|ledger, table, _| ledger.push(time, table, &request))
+    }
+
+    fn decide(&mut self, time: u64, request: Decide) -> Result<Decided, Refusal> {
+        self.call(|ledger, _, output| ledger.decide(time, &request, output))
+    }
+
+    fn token(&mut self, time: u64, request: Redeem) -> Result<Answer, Refusal> {
+        self.call(|ledger, table, _| ledger.token(time, table, &request))
+    }
+
+    fn resource(&mut self, time: u64, request: Read) -> Result<Answer, Refusal> {
+        self.call(|ledger, _, _| ledger.resource(time, &request))
+    }
+
+    fn sweep(&mut self, time: u64) -> Result<Swept, Refusal> {
+        self.call(|ledger, _, _| ledger.sweep(time))
+    }
+}
+
+#[test]
+fn a_grant_from_push_to_reading() {
+    let mut world = World::at(Far::Started);
+    let pushed = world.push(1000, PUSH).unwrap();
+    assert_eq!(pushed, Answer { grant: 1, holder: 0, scope: 4, expiry: 1599 });
+    let decided = world.decide(1010, YES).unwrap();
+    assert_eq!(decided.answer, Answer { grant: 1, holder: HOLDER, scope: 4, expiry: 1070 });
+    assert_eq!(&world.output[..decided.redirect_length], b"https://a");
+    assert!(world.output[decided.redirect_length..OUTPUT_LEAST].iter().all(|&byte| byte == 0));
+    assert!(world.output[OUTPUT_LEAST..].iter().all(|&byte| byte == 0xcc));
+    let redeemed = Answer { grant: 1, holder: HOLDER, scope: 4, expiry: 1320 };
+    assert_eq!(world.token(1020, REDEEM), Ok(redeemed));
+    assert_eq!(world.resource(1030, READ), Ok(redeemed));
+    assert_eq!(world.sweep(1319), Ok(Swept { pushed: 0, consented: 0, redeemed: 0 }));
+    assert_eq!(world.sweep(1320), Ok(Swept { pushed: 0, consented: 0, redeemed: 1 }));
+    assert_eq!(world.resource(1320, READ), Err(Refusal::NoToken));
+}
+
+#[test]
+fn a_no_frees_the_record() {
+    let mut world = World::at(Far::Pushed);
+    let decided = world.decide(1010, NO).unwrap();
+    assert_eq!(decided.answer, Answer { grant: 1, holder: HOLDER, scope: 0, expiry: 0 });
+    assert_eq!(&world.output[..decided.redirect_length], b"https://a");
+    assert_eq!(world.decide(1010, YES), Err(Refusal::NoReference));
+    assert_eq!(world.push(1010, PUSH).unwrap().grant, 2);
+}
+
+#[test]
+fn start_by_its_length_alone() {
+    for records in [LEDGER_LEAST, 2, LEDGER_MOST] {
+        let mut bytes = vec![0xff; ledger_bytes(records)];
+        Ledger::start(&mut bytes).unwrap();
+        assert!(bytes.iter().enumerate().all(|(i, &byte)| byte == u8::from(i == 15)));
+    }
+    for length in [0, 1, 32, 287, 289, ledger_bytes(LEDGER_MOST) - 1, ledger_bytes(LEDGER_MOST + 1)] {
+        let mut bytes = vec![0xff; length];
+        assert_eq!(Ledger::start(&mut bytes).unwrap_err(), Refusal::LedgerUnsound);
+        assert!(bytes.iter().all(|&byte| byte == 0xff));
+    }
+}
+
+#[test]
+fn push_is_refused_in_order() {
+    use Refusal::*;
+    let zero = Reference([0; 32]);
+    let long = [b'a'; 65];
+    let mut world = World::at(Far::Started);
+    world.sweep(5).unwrap();
+    assert_eq!(world.push(4, PUSH), Err(TimeWrong));
+    assert_eq!(world.push(1 << 40, PUSH), Err(TimeWrong));
+    assert_eq!(world.push(5, Push { client: ClientId([9; 16]), ..PUSH }), Err(ClientUnknown));
+    assert_eq!(world.push(5, Push { key: Key([9; 32]), ..PUSH }), Err(ClientUnknown));
+    for redirect in [&b"https://"[..], b"http://ab", b"", b"https://\x20", &long] {
+        assert_eq!(world.push(5, Push { redirect, scope: 0, ..PUSH }), Err(IllFormed));
+    }
+    for challenge in [&CHALLENGE[1..], b"", &long[..44], b"E9Melhoa2OwvFrEMTJguCHaoeK1t8URWbuGJSstw.cM"] {
+        assert_eq!(world.push(5, Push { challenge, scope: 0, ..PUSH }), Err(IllFormed));
+    }
+    assert_eq!(world.push(5, Push { scope: 0, fresh: zero, ..PUSH }), Err(ScopeRefused));
+    assert_eq!(world.push(5, Push { scope: 2, fresh: zero, ..PUSH }), Err(ScopeRefused));
+    assert_eq!(world.push(5, Push { fresh: zero, ..PUSH }), Err(FreshTaken));
+    world.push(5, PUSH).unwrap();
+    assert_eq!(world.push(5, PUSH), Err(FreshTaken));
+    world.push(5, Push { fresh: Reference([0x12; 32]), ..PUSH }).unwrap();
+    assert_eq!(world.push(5, Push { fresh: Reference([0x13; 32]), ..PUSH }), Err(LedgerFull));
+
+    let mut world = World::at(Far::Started);
+    world.bytes[8..16].fill(0xff);
+    assert_eq!(world.push(5, PUSH), Err(NumbersSpent));
+    world.bytes[15] = 0xfe;
+    assert_eq!(world.push(5, PUSH).unwrap().grant, u64::MAX - 1);
+
+    let mut world = World::at(Far::Started);
+    world.table[63] = 1;
+    assert_eq!(world.push(5, PUSH), Err(TableUnsound));
+    world.table.clear();
+    assert_eq!(world.push(5, PUSH), Err(TableUnsound));
+    world.bytes[16] = 1;
+    assert_eq!(world.push(1 << 40, PUSH), Err(LedgerUnsound));
+}
+
+#[test]
+fn decide_is_refused_in_order() {
+    use Refusal::*;
+    let mut world = World::at(Far::Pushed);
+    let taken = Decide { choice: Choice::Yes(Code(REFERENCE.0)), ..YES };
+    assert_eq!(world.decide(1000, Decide { reference: Reference([0x22; 32]), ..YES }), Err(NoReference));
+    assert_eq!(world.decide(1000, Decide { client: OTHER, ..YES }), Err(NoReference));
+    assert_eq!(world.decide(1599, Decide { holder: 0, ..YES }), Err(RecordExpired));
+    assert_eq!(world.decide(1598, Decide { holder: 0, ..taken }), Err(NoHolder));
+    assert_eq!(world.decide(1598, taken), Err(FreshTaken));
+    assert_eq!(world.decide(1598, Decide { choice: Choice::Yes(Code([0; 32])), ..YES }), Err(FreshTaken));
+    assert_eq!(world.decide(999, YES), Err(TimeWrong));
+    world.output.truncate(OUTPUT_LEAST - 1);
+    assert_eq!(world.decide(999, YES), Err(TimeWrong));
+    assert_eq!(world.decide(1599, Decide { client: OTHER, ..YES }), Err(OutputShort));
+    world.output.clear();
+    assert_eq!(world.decide(1598, NO), Err(OutputShort));
+    world.output.resize(OUTPUT_LEAST, 0xcc);
+    world.bytes[0] = 1;
+    assert_eq!(world.decide(1598, YES), Err(LedgerUnsound));
+    world.bytes[0] = 0;
+    world.decide(1598, YES).unwrap();
+    assert_eq!(world.decide(1598, YES), Err(NoReference));
+}
+
+#[test]
+fn token_is_refused_in_order() {
+    use Refusal::*;
+    let mut world = World::at(Far::Consented);
+    let long = [b'a'; 129];
+    assert_eq!(world.token(999, REDEEM), Err(TimeWrong));
+    assert_eq!(world.token(1059, Redeem { client: ClientId([9; 16]), ..REDEEM }), Err(ClientUnknown));
+    assert_eq!(world.token(1059, Redeem { key: BOUND, ..REDEEM }), Err(ClientUnknown));
+    assert_eq!(world.token(1059, Redeem { presented: Key([0; 32]), verifier: b"", ..REDEEM }), Err(NoKey));
+    for verifier in [&VERIFIER[1..], b"", &long, b"dBjftJeZ4CVP-mB92K27uhbUJU1p1r_wW1gFWFOEjX/"] {
+        assert_eq!(world.token(1059, Redeem { verifier, ..REDEEM }), Err(IllFormed));
+    }
+    assert_eq!(world.token(1060, Redeem { code: Code([9; 32]), ..REDEEM }), Err(NoCode));
+    assert_eq!(world.token(1060, Redeem { client: OTHER, ..REDEEM }), Err(NoCode));
+    assert_eq!(world.token(1060, Redeem { verifier: &long[..128], ..REDEEM }), Err(RecordExpired));
+    assert_eq!(
+        world.token(1059, Redeem { verifier: &long[..43], fresh: Token([0; 32]), ..REDEEM }),
+        Err(VerifierDiffers)
+    );
+    assert_eq!(world.token(1059, Redeem { fresh: Token([0; 32]), ..REDEEM }), Err(FreshTaken));
+    assert_eq!(world.token(1059, Redeem { fresh: Token(CODE.0), ..REDEEM }), Err(FreshTaken));
+    world.token(1059, REDEEM).unwrap();
+    assert_eq!(world.token(9999, Redeem { verifier: &long[..43], ..REDEEM }), Err(CodeRedeemed));
+    assert_eq!(world.token(9999, Redeem { client: OTHER, ..REDEEM }), Err(NoCode));
+    world.table[0..16].fill(0);
+    assert_eq!(world.token(1059, REDEEM), Err(TableUnsound));
+    world.bytes.push(0);
+    assert_eq!(world.token(1059, REDEEM), Err(LedgerUnsound));
+}
+
+#[test]
+fn resource_is_refused_in_order() {
+    use Refusal::*;
+    let mut world = World::at(Far::Redeemed);
+    assert_eq!(world.resource(1058, READ), Err(TimeWrong));
+    for value in [CODE.0, REFERENCE.0, [0; 32]] {
+        assert_eq!(world.resource(1059, Read { token: Token(value), ..READ }), Err(NoToken));
+    }
+    assert_eq!(world.resource(1359, Read { presented: KEY, ..READ }), Err(RecordExpired));
+    assert_eq!(world.resource(1358, Read { presented: KEY, scope: 0, ..READ }), Err(KeyDiffers));
+    assert_eq!(world.resource(1358, Read { scope: 0, holder: 8, ..READ }), Err(ScopeRefused));
+    assert_eq!(world.resource(1358, Read { scope: 1, holder: 8, ..READ }), Err(ScopeRefused));
+    assert_eq!(world.resource(1358, Read { holder: 8, ..READ }), Err(HolderDiffers));
+    world.table.clear();
+    world.resource(1358, READ).unwrap();
+    world.bytes[31] = 1;
+    assert_eq!(world.resource(1358, READ), Err(LedgerUnsound));
+}
+
+#[test]
+fn sweep_frees_by_state() {
+    let mut world = World::at(Far::Redeemed);
+    world.push(1059, PUSH).unwrap();
+    assert_eq!(world.sweep(1058), Err(Refusal::TimeWrong));
+    assert_eq!(world.sweep(1359), Ok(Swept { pushed: 0, consented: 0, redeemed: 1 }));
+    world.decide(1400, YES).unwrap();
+    assert_eq!(world.sweep(1460), Ok(Swept { pushed: 0, consented: 1, redeemed: 0 }));
+    assert_eq!(world.sweep(1 << 40), Err(Refusal::TimeWrong));
+    assert_eq!(world.sweep((1 << 40) - 1), Ok(Swept { pushed: 0, consented: 0, redeemed: 0 }));
+    world.bytes[0] = 1;
+    assert_eq!(world.sweep((1 << 40) - 1), Err(Refusal::LedgerUnsound));
+}
+
+#[test]
+fn refusals_by_number() {
+    assert_eq!(Refusal::ALL.len(), 20);
+    for (place, &refusal) in Refusal::ALL.iter().enumerate() {
+        assert_eq!(usize::from(refusal.number()), place + 1);
+        assert_eq!(Refusal::of(refusal.number()), Some(refusal));
+    }
+    assert_eq!((Refusal::of(0), Refusal::of(21)), (None, None));
+    assert_eq!(Refusal::CodeRedeemed.to_string(), "15: that record is in state 3, expired or not");
+}
+
+#[test]
+fn values_are_not_shown() {
+    assert_eq!(format!("{REFERENCE:?} {CODE:?} {TOKEN:?}"), "Reference(..) Code(..) Token(..)");
+}

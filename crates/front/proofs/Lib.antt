@@ -1,0 +1,2 @@
+-- What the front adds to the desk's contracts.
+pub mod Whole

@@ -1,0 +1,187 @@
+/*
+ * Perdigolh, the permissions desk, for a web front: the six calls of document 01, from C or any language that can call C.
+ *
+ * Link target/staticlib/libfront.a, which `rt staticlib front` writes once every contract is proved (x86-64 Linux).
+ * The functions are crates/front's; tests/header.py holds this file to that source.
+ *
+ * What holds for every function:
+ * - It ends, on every input of every length, with a number of the table below. It checks for itself the ledger, the table and the
+ *   request that it reads, in the order given, and the first check that fails gives the number.
+ * - A refusal (any number but 0) has zeros beside its number and changes no byte, the ledger's clock included.
+ * - It allocates nothing, keeps no pointer, has no state of its own and calls nothing outside the archive but the C library's
+ *   memory functions.
+ * - No pointer is NULL, not even with length 0. Lengths are in bytes. A pointer to an array, `client[16]`, has that many bytes.
+ *   The ledger, and the output of decide, are lent to be written and overlap nothing else that is lent; all else is only read.
+ *   This is what a C compiler cannot check, and what the front owes.
+ * - One ledger has one writer: no two calls on one ledger at a time. Between the calls nobody else writes to it. docs/FRONT.md says
+ *   how to keep it in a file, and why an answer is given out only once the ledger it left is stored.
+ * - Bytes of a struct that belong to no field hold nothing: compare fields, not memory.
+ *
+ * Numbers in the ledger and in the table are big-endian; those in arguments and answers are the machine's own.
+ */
+#ifndef PERDIGOLH_H
+#define PERDIGOLH_H
+
+#include <stddef.h>
+#include <stdint.h>
+
+#ifdef __cplusplus
+extern "C" {
+#endif
+
+/* Sizes, in bytes and in records. */
+#define PERDIGOLH_LEDGER_HEAD 32
+#define PERDIGOLH_LEDGER_RECORD 256
+#define PERDIGOLH_LEDGER_LEAST 1
+#define PERDIGOLH_LEDGER_MOST 200
+#define PERDIGOLH_CLIENT_SIZE 64
+#define PERDIGOLH_TABLE_MOST 64
+#define PERDIGOLH_OUTPUT_LEAST 64
+
+/* The bytes of a ledger with this many records, and of a table with this many clients. */
+#define PERDIGOLH_LEDGER_BYTES(records) (PERDIGOLH_LEDGER_HEAD + (size_t)(records) * PERDIGOLH_LEDGER_RECORD)
+#define PERDIGOLH_TABLE_BYTES(clients) ((size_t)(clients) * PERDIGOLH_CLIENT_SIZE)
+
+/* Seconds that a reference, a code and a token live: each is expired once `time` is at or past its expiry. */
+#define PERDIGOLH_REFERENCE_LIFETIME 599
+#define PERDIGOLH_CODE_LIFETIME 60
+#define PERDIGOLH_TOKEN_LIFETIME 300
+
+/* The holder's choice at decide. Nothing but this one value consents; every other value is a no. */
+#define PERDIGOLH_YES 1
+#define PERDIGOLH_NO 0
+
+/* The numbers returned, each given exactly when its turn comes and: */
+enum perdigolh_number {
+    PERDIGOLH_DONE = 0,
+    PERDIGOLH_LEDGER_UNSOUND = 1,    /* ledger length wrong or ledger not sound */
+    PERDIGOLH_TIME_WRONG = 2,        /* now is below the clock, or 2^40 or more */
+    PERDIGOLH_TABLE_UNSOUND = 3,     /* client table not sound */
+    PERDIGOLH_CLIENT_UNKNOWN = 4,    /* no such client id, or its authentication key differs */
+    PERDIGOLH_ILL_FORMED = 5,        /* redirect or challenge (push), or verifier (token) ill formed */
+    PERDIGOLH_SCOPE_REFUSED = 6,     /* scope 0, or not within the permitted (push) or granted (resource) bits */
+    PERDIGOLH_FRESH_TAKEN = 7,       /* fresh value all zeros, or in the pool */
+    PERDIGOLH_LEDGER_FULL = 8,       /* no free record */
+    PERDIGOLH_NUMBERS_SPENT = 9,     /* next grant number is 2^64 - 1 */
+    PERDIGOLH_NO_REFERENCE = 10,     /* no record in state 1 with this reference and client id */
+    PERDIGOLH_RECORD_EXPIRED = 11,   /* the record is expired */
+    PERDIGOLH_NO_HOLDER = 12,        /* holder 0 */
+    PERDIGOLH_NO_KEY = 13,           /* presented key all zeros */
+    PERDIGOLH_NO_CODE = 14,          /* no record in state 2 or 3 with this code and client id */
+    PERDIGOLH_CODE_REDEEMED = 15,    /* that record is in state 3, expired or not */
+    PERDIGOLH_VERIFIER_DIFFERS = 16, /* verifier does not match */
+    PERDIGOLH_NO_TOKEN = 17,         /* no record in state 3 with this token */
+    PERDIGOLH_KEY_DIFFERS = 18,      /* presented key differs from the bound key */
+    PERDIGOLH_HOLDER_DIFFERS = 19,   /* holder asked is not the record's holder */
+    PERDIGOLH_OUTPUT_SHORT = 20      /* output buffer shorter than 64 bytes */
+};
+
+/* What push, token and resource answer, as the record has it after the call. */
+typedef struct perdigolh_answer {
+    uint8_t number;
+    uint64_t grant; /* the grant number: the name of this one permission, for good */
+    uint64_t holder;
+    uint32_t scope;
+    uint64_t expiry; /* the first second at which the record is expired */
+} perdigolh_answer;
+
+/* What decide answers. After a no: the grant number, the holder given, scope 0, expiry 0. */
+typedef struct perdigolh_decided {
+    perdigolh_answer answer;
+    uint8_t length; /* bytes of the redirect at the front of the output, on yes and on no */
+} perdigolh_decided;
+
+/* What sweep answers: how many records it freed that were pushed, consented and redeemed. */
+typedef struct perdigolh_swept {
+    uint8_t number;
+    size_t pushed;
+    size_t consented;
+    size_t redeemed;
+} perdigolh_swept;
+
+/*
+ * Start: makes a ledger of zeros with next grant number 1. Answers its number alone.
+ *
+ * Changed: all of the ledger, whatever it held before. Grant numbers and the clock begin anew: start a ledger once.
+ * Checks: 1, for a length that is not PERDIGOLH_LEDGER_BYTES of 1 to 200.
+ */
+uint8_t perdigolh_start(uint8_t *ledger, size_t ledger_length);
+
+/*
+ * Push: a buyer's program leaves its request and gets a reference, which opens nothing.
+ *
+ * Lent:    the ledger; the time, in seconds; the client table; the program's client id; the thumbprint of the key by which it
+ *          authenticated; the scope bits that it asks for; the challenge (43 characters, S256); the redirect; a fresh value.
+ * Changed: the first free record, the next grant number, the clock. The fresh value is the reference from then on.
+ * Checks, in order: 1, 2, 3, 4, 5, 6, 7, 8, 9.
+ * Checked by the front before: that the program holds the private key of `key` (its TLS certificate or its signed assertion);
+ *          `fresh` is 32 bytes of the front's random source, drawn for this call; `time` is its clock.
+ * Answer:  the grant number, holder 0, the scope, the expiry of the reference.
+ */
+perdigolh_answer perdigolh_push(uint8_t *ledger, size_t ledger_length, uint64_t time, const uint8_t *table, size_t table_length,
+                                const uint8_t client[16], const uint8_t key[32], uint32_t scope, const uint8_t *challenge,
+                                size_t challenge_length, const uint8_t *redirect, size_t redirect_length,
+                                const uint8_t fresh[32]);
+
+/*
+ * Decide: the holder who has logged in allows the request once, or declines it. Either way the reference is used up.
+ *
+ * Lent:    the ledger; the time; the reference and the client id that the browser brought; yes (PERDIGOLH_YES, or anything else
+ *          for no); the holder's number; a fresh value; an output of at least 64 bytes.
+ * Changed: on yes the request's record, whose fresh value is the code from then on; on no that record becomes free; and the clock.
+ *          On both the redirect goes into the first 64 bytes of the output, with zeros behind it; later bytes stay.
+ * Checks, in order: 1, 2, 20, 10, 11, 12, and on yes 7. On no the fresh value is not looked at.
+ * Checked by the front before: that `holder` is the person who has logged in and that it is she who chose, seeing this request;
+ *          `fresh` is 32 bytes of its random source, drawn for this call.
+ * Answer:  the grant number, the holder, the scope, the expiry of the code (scope and expiry 0 after a no); the redirect's length.
+ *          After a refusal the output holds nothing of the desk's: send the browser nowhere.
+ */
+perdigolh_decided perdigolh_decide(uint8_t *ledger, size_t ledger_length, uint64_t time, const uint8_t reference[32],
+                                   const uint8_t client[16], uint8_t yes, uint64_t holder, const uint8_t fresh[32],
+                                   uint8_t *output, size_t output_length);
+
+/*
+ * Token: the program redeems its code, with the secret whose hash it left at push, for a token tied to its key.
+ *
+ * Lent:    the ledger; the time; the client table; the client id; the thumbprint of the key by which it authenticated; the
+ *          thumbprint of the key that it presents, which the token is bound to; the code; the verifier; a fresh value.
+ * Changed: the record of the code, whose fresh value is the token from then on; and the clock. The code stays in the record, so
+ *          that a second use is known as one.
+ * Checks, in order: 1, 2, 3, 4, 13, 5, then 14 or 15, 11, 16, 7.
+ * Checked by the front before: that the program holds the private keys of `key` and of `presented`; `fresh` is 32 bytes of its
+ *          random source, drawn for this call.
+ * Answer:  the grant number, the holder, the scope, the expiry of the token.
+ */
+perdigolh_answer perdigolh_token(uint8_t *ledger, size_t ledger_length, uint64_t time, const uint8_t *table, size_t table_length,
+                                 const uint8_t client[16], const uint8_t key[32], const uint8_t presented[32],
+                                 const uint8_t code[32], const uint8_t *verifier, size_t verifier_length,
+                                 const uint8_t fresh[32]);
+
+/*
+ * Resource: with token and key the program reads only what the holder allowed. One call for each reading.
+ *
+ * Lent:    the ledger; the time; the token; the thumbprint of the key that is presented; the scope bits that this reading needs;
+ *          the holder whose figures they are.
+ * Changed: the clock. The client table is not read.
+ * Checks, in order: 1, 2, 17, 11, 18, 6, 19.
+ * Checked by the front before: that the program holds the private key of `presented`.
+ * Answer:  the grant number, the holder, the scope that was granted (not the one asked), the expiry of the token. The front hands
+ *          out the figures of that holder within the bits asked, and nothing else.
+ */
+perdigolh_answer perdigolh_resource(uint8_t *ledger, size_t ledger_length, uint64_t time, const uint8_t token[32],
+                                    const uint8_t presented[32], uint32_t scope, uint64_t holder);
+
+/*
+ * Sweep: every expired record becomes free. Call it now and then, and when push answers 8.
+ *
+ * Changed: the expired records, and the clock.
+ * Checks, in order: 1, 2.
+ * Answer:  the records freed, by the state that they were in.
+ */
+perdigolh_swept perdigolh_sweep(uint8_t *ledger, size_t ledger_length, uint64_t time);
+
+#ifdef __cplusplus
+}
+#endif
+
+#endif
