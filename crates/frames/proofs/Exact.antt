@@ -1,15 +1,14 @@
 -- "A line that is no frame (odd digits, no hex, empty, unknown kind, wrong length, a yes byte above 01, more than 640 digits) prints `ff` once and changes
 -- nothing.": each of the reasons, what follows from every one, and that there is no other reason. Assumes nothing.
-use Prim.Native.Nat.{ℕ, zero, suc, _+_, _-_, _%_, _≤_, _<_}
+use Prim.Native.Nat.{ℕ, zero, suc, _+_, _%_, _≤_, _<_}
 use native.Mathlib.Omega.{arith}
-use mathlib.Core.Path.{_≡_, refl, sym, ap, _∙_}
+use mathlib.Core.Path.{_≡_, refl, sym, _∙_}
 use mathlib.Core.Bool.{Bool, true, false, _&&_, cond, and-false, false≢true}
 use mathlib.Core.List.{List, []}
-use lib.Dec.{eqb, leb, ltb}
+use lib.Dec.{eqb, leb}
 use lib.ListN.{length, getD}
 use borrow.Author.Tests.{ne-eqb, le-leb, lt-leb, le-ltb, lt-ltb}
 use Rattle.octets.specs.Lists.{tabulate}
-use Rattle.frames.specs.declared.kind.Kind.{Kind}
 use Rattle.frames.specs.declared.kind.Kind.the-variants.{NoFrame}
 use Rattle.frames.specs.Limits.{lineMost}
 use Rattle.frames.specs.Hex.{between, isDigit, digit, isHex, decoded}
