@@ -14,13 +14,12 @@ fn start(line: &[u8], l: &mut [u8]) {
     say::number(line, n, l);
 }
 
-// name, time; how many clients the table has, client, key, scope, fresh value; challenge, redirect
-fn push(line: &[u8], l: &mut [u8]) {
-    let w = letters(line);
+// how many clients the table has, client, key, scope, fresh value; challenge, redirect
+fn push(line: &[u8], l: &mut [u8], time: u64, w: [u8; 6]) {
     let t = table::three();
     let a = push::push(
         l,
-        number(line, 1),
+        time,
         cut(&t, 0, (w[0] as usize) << 6),
         &[w[1]; 16],
         &[w[2]; 32],
@@ -32,12 +31,11 @@ fn push(line: &[u8], l: &mut [u8]) {
     say::answer(line, a, l);
 }
 
-// name, time; reference, client, yes or no, holder, fresh value
-fn decide_into(line: &[u8], l: &mut [u8], out: &mut [u8]) {
-    let w = letters(line);
+// reference, client, yes or no, holder, fresh value
+fn decide_into(line: &[u8], l: &mut [u8], time: u64, w: [u8; 6], out: &mut [u8]) {
     let d = decide::decide(
         l,
-        number(line, 1),
+        time,
         &[w[0]; 32],
         &[w[1]; 16],
         w[2] == b'y',
@@ -49,23 +47,22 @@ fn decide_into(line: &[u8], l: &mut [u8], out: &mut [u8]) {
 }
 
 // With room for 64 bytes and two more, or where the line ends in the word short for one byte less than 64.
-fn decide(line: &[u8], l: &mut [u8]) {
+fn decide(line: &[u8], l: &mut [u8], time: u64, w: [u8; 6]) {
     if same(word(line, 7), b"short") {
         let mut short = [b'.'; 63];
-        decide_into(line, l, &mut short);
+        decide_into(line, l, time, w, &mut short);
         return;
     }
     let mut out = [b'.'; 66];
-    decide_into(line, l, &mut out);
+    decide_into(line, l, time, w, &mut out);
 }
 
-// name, time; how many clients the table has, client, key, presented key, code, fresh value; verifier
-fn token(line: &[u8], l: &mut [u8]) {
-    let w = letters(line);
+// how many clients the table has, client, key, presented key, code, fresh value; verifier
+fn token(line: &[u8], l: &mut [u8], time: u64, w: [u8; 6]) {
     let t = table::three();
     let a = token::token(
         l,
-        number(line, 1),
+        time,
         cut(&t, 0, (w[0] as usize) << 6),
         &[w[1]; 16],
         &[w[2]; 32],
@@ -77,41 +74,67 @@ fn token(line: &[u8], l: &mut [u8]) {
     say::answer(line, a, l);
 }
 
-// name, time; token, presented key, scope, holder
-fn resource(line: &[u8], l: &mut [u8]) {
-    let w = letters(line);
-    let a = resource::resource(
-        l,
-        number(line, 1),
-        &[w[0]; 32],
-        &[w[1]; 32],
-        w[2] as u32,
-        w[3] as u64,
-    );
+// token, presented key, scope, holder
+fn resource(line: &[u8], l: &mut [u8], time: u64, w: [u8; 6]) {
+    let a = resource::resource(l, time, &[w[0]; 32], &[w[1]; 32], w[2] as u32, w[3] as u64);
     say::answer(line, a, l);
 }
 
-// name, time
-fn sweep(line: &[u8], l: &mut [u8]) {
-    let s = sweep::sweep(l, number(line, 1));
+fn sweep(line: &[u8], l: &mut [u8], time: u64) {
+    let s = sweep::sweep(l, time);
     say::swept(line, s, l);
 }
 
-// A line is named by its call; `next` with a number sets the ledger's next number, and any other line is a remark.
-pub fn play(line: &[u8], l: &mut [u8]) {
+enum Call {
+    Start,
+    Push,
+    Decide,
+    Token,
+    Resource,
+    Sweep,
+    Next,
+    Remark,
+}
+
+// A line is named by its call.
+fn named(line: &[u8]) -> Call {
     if begins(line, b"start") {
-        start(line, l);
-    } else if begins(line, b"push") {
-        push(line, l);
-    } else if begins(line, b"decide") {
-        decide(line, l);
-    } else if begins(line, b"token") {
-        token(line, l);
-    } else if begins(line, b"resource") {
-        resource(line, l);
-    } else if begins(line, b"sweep") {
-        sweep(line, l);
-    } else if begins(line, b"next") {
-        ledger::clock::set_next(l, number(line, 1));
+        return Call::Start;
+    }
+    if begins(line, b"push") {
+        return Call::Push;
+    }
+    if begins(line, b"decide") {
+        return Call::Decide;
+    }
+    if begins(line, b"token") {
+        return Call::Token;
+    }
+    if begins(line, b"resource") {
+        return Call::Resource;
+    }
+    if begins(line, b"sweep") {
+        return Call::Sweep;
+    }
+    if begins(line, b"next") {
+        return Call::Next;
+    }
+    Call::Remark
+}
+
+// Behind the name a line has the time, and then what the call asks. `next` with a number sets the ledger's next number.
+pub fn play(line: &[u8], l: &mut [u8]) {
+    let n = number(line, 1);
+    let w = letters(line);
+    let call = named(line);
+    match call {
+        Call::Start => start(line, l),
+        Call::Push => push(line, l, n, w),
+        Call::Decide => decide(line, l, n, w),
+        Call::Token => token(line, l, n, w),
+        Call::Resource => resource(line, l, n, w),
+        Call::Sweep => sweep(line, l, n),
+        Call::Next => ledger::clock::set_next(l, n),
+        Call::Remark => {}
     }
 }
