@@ -19,8 +19,8 @@ use Rattle.ledger.proofs.Records.{length-records, rec-length, length-with}
 use Rattle.ledger.proofs.Swept.{length-free, length-to}
 use Rattle.desk.specs.declared.answer.Refusal.{Refusal}
 use Rattle.desk.specs.declared.answer.Refusal.the-variants.{LedgerUnsound}
-use Rattle.desk.specs.declared.resource.Reading.{Reading}
-use Rattle.desk.specs.declared.resource.Reading.the-variants.{Granted, Refused}
+use Rattle.desk.specs.declared.answer.Reading.{Reading}
+use Rattle.desk.specs.declared.answer.Reading.the-variants.{Granted, Refused}
 use Rattle.desk.specs.Checks.{Check, _when_, Verdict, accepted, stopped, first}
 use Rattle.desk.specs.Requests.{PushRequest, DecideRequest, TokenRequest, ResourceRequest}
 use Rattle.desk.specs.Push.{Outcome, concludes, push, pushChecks, pushAt, pushRecord}
