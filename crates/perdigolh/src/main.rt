@@ -1,5 +1,9 @@
 // The line program: standard input is read as it comes, handed to lines, and what that puts out is written before more is read. A failed read or write
 // ends it.
+ghost use lib.ListN.{length};
+ghost use Rattle.lines.specs.Turn.{held};
+ghost use Rattle.lines.specs.Run.{passOn};
+ghost use Rattle.perdigolh.specs.Chunk.{LeavesAs};
 use frames::limit::Buffer;
 use frames::limit::Line;
 use libc::STDIN_FILENO;
@@ -11,7 +15,7 @@ use lines::feed::finish;
 // What a step leaves: the lengths in use, and whether there is more to do.
 struct Step {
     state: State,
-    goes_on: bool,
+    more: bool,
 }
 
 // A chunk of the input: handed over and its answers written, until all of it is taken.
@@ -22,7 +26,9 @@ fn pass_on(
     ledger: &mut [u8],
     table: &mut [u8],
     out: &mut [u8],
-) -> Step {
+) -> Step
+    ensures { λ r. ⌜ LeavesAs (passOn (length (now (chunk .entry))) (held s (now (line .entry)) (now (ledger .entry)) (now (table .entry))) (now (out .entry)) (now (chunk .entry))) (r .more) (held (r .state) (now (line .exit)) (now (ledger .exit)) (now (table .exit))) (now (out .exit)) ⌝ }
+{
     let mut state = s;
     let mut at = 0;
     let mut turns = chunk.len();
@@ -35,7 +41,7 @@ fn pass_on(
         if !is_written {
             return Step {
                 state: state,
-                goes_on: false,
+                more: false,
             };
         }
         at += fed.taken;
@@ -43,7 +49,7 @@ fn pass_on(
     }
     Step {
         state: state,
-        goes_on: true,
+        more: true,
     }
 }
 
@@ -55,7 +61,7 @@ fn end(s: State, line: &mut [u8], ledger: &mut [u8], table: &mut [u8], out: &mut
     let left = fed.state;
     Step {
         state: left,
-        goes_on: false,
+        more: false,
     }
 }
 
@@ -72,7 +78,7 @@ fn serve_some(
     if got < 0 {
         return Step {
             state: s,
-            goes_on: false,
+            more: false,
         };
     }
     if got == 0 {
@@ -88,7 +94,7 @@ fn run(input: &mut [u8], line: &mut [u8], ledger: &mut [u8], table: &mut [u8], o
     let mut turns = usize::MAX;
     while turns > 0 {
         let step = serve_some(state, input, line, ledger, table, out);
-        if !step.goes_on {
+        if !step.more {
             return;
         }
         let left = step.state;

@@ -1,14 +1,19 @@
 use Prim.Native.Nat.{_≤_}
+use Rattle.lines.specs.Run.{passOn}
+use Rattle.lines.specs.Turn.{held}
+use Rattle.perdigolh.proofs.Passing.{Going, going-on, going-end, going-out}
 use Rattle.perdigolh.proofs.pass_on.Statement.{statement}
 use borrow.Author.Needs.{needs}
-use lib.ListN.{length}
+use borrow.Author.Tests.{ltb-true, ltb-false}
+use lib.ListN.{drop, length}
 use lib.Seq.{length-take-le}
-use mathlib.Core.Path.{_≡_, sym}
+use mathlib.Core.Bool.{false≢true}
+use mathlib.Core.Path.{_≡_, refl, sym}
 use native.Mathlib.Omega.{arith}
 use Rattle.perdigolh.proofs.pass_on.Tie as tie
 
 abbrev Inv-loop : tie.InvT-loop
-Inv-loop chunk line₀ ledger₀ table₀ out₀ state₀ at₀ turns₀ line ledger table out state at turns = (at ≤ length chunk) × (length line ≡ length line₀) × (length ledger ≡ length ledger₀) × (length table ≡ length table₀) × (length out ≡ length out₀)
+Inv-loop chunk line₀ ledger₀ table₀ out₀ state₀ at₀ turns₀ line ledger table out state at turns = (at ≤ length chunk) × (length line ≡ length line₀) × (length ledger ≡ length ledger₀) × (length table ≡ length table₀) × (length out ≡ length out₀) × Going (passOn (length chunk) (held state₀ line₀ ledger₀ table₀) out₀ chunk) turns (held state line ledger table) out (drop at chunk)
 
 abbrev μ-loop : tie.MeasureT-loop
 μ-loop chunk line₀ ledger₀ table₀ out₀ state₀ at₀ turns₀ line ledger table out state at turns = turns
@@ -16,13 +21,40 @@ abbrev μ-loop : tie.MeasureT-loop
 slice-aggregate-write-all : tie.Need-slice-aggregate-write-all Inv-loop μ-loop
 slice-aggregate-write-all c = sym (length-take-le _ _ (omega arith))
 
+loop-holds : tie.Need-loop-holds Inv-loop μ-loop
+loop-holds c = (search needs, refl, refl, refl, refl, record { held = refl; out′ = refl })
+
+returns : tie.Need-returns Inv-loop μ-loop
+returns c = λ e. absurd (false≢true e)
+
+loop-again : tie.Need-loop-again Inv-loop μ-loop
+loop-again c =
+    let l = c .before .before .before .before .before .before .before .before .before .before .before .before .before .before .before .before .before .before .before .before .before .loop in (
+      search needs,
+      search needs,
+      search needs,
+      search needs,
+      search needs,
+      going-on _ (held (l .state) (l .line) (l .ledger) (l .table)) (l .out) (c .before .before .before .before .before .before .before .before .before .before .before .before .before .before .before .before .before .before .before .before .before .before .before .before .before .before .before .args .chunk .now) (l .at) (l .turns) (omega arith) (ltb-true _ _ (c .before .before .before .before .before .before .before .before .before .before .before .before .before .before .before .before .before .before .before .if1 .taken)) (l .inv .5) (c .before .before .before .before .before .before .before .before .before .before .before .before .before .feed .ensures .0),
+    )
+
+returns-2 : tie.Need-returns-2 Inv-loop μ-loop
+returns-2 c =
+    let l = c .before .before .loop in
+    λ e. going-end _ (held (l .state) (l .line) (l .ledger) (l .table)) (l .out) (c .before .before .before .before .before .before .before .before .args .chunk .now) (l .at) (l .turns) (ltb-false _ _ (c .if1 .left)) (l .inv .5)
+
+returns-3 : tie.Need-returns-3 Inv-loop μ-loop
+returns-3 c =
+    let l = c .before .loop in
+    λ e. going-out _ (held (l .state) (l .line) (l .ledger) (l .table)) (l .out) (c .before .before .before .before .before .before .before .args .chunk .now) (l .at) (l .turns) (omega arith) (l .inv .5)
+
 pub pass-on-spec : {M : Type 1} → statement M
 pass-on-spec =
     tie.close
     (tie.spec
     Inv-loop
     μ-loop
-    (search needs)
+    loop-holds
     (search needs)
     (search needs)
     (search needs)
@@ -34,18 +66,18 @@ pass-on-spec =
     (search needs)
     (search needs)
     (search needs)
+    returns
+    (search needs)
+    (search needs)
+    (search needs)
+    loop-again
     (search needs)
     (search needs)
     (search needs)
     (search needs)
+    returns-2
     (search needs)
     (search needs)
     (search needs)
     (search needs)
-    (search needs)
-    (search needs)
-    (search needs)
-    (search needs)
-    (search needs)
-    (search needs)
-    (search needs))
+    returns-3)

@@ -1,0 +1,2 @@
+-- The laws of a chunk that is passed on.
+pub mod Passing

@@ -1,0 +1,2 @@
+-- What the line program does with a chunk of its input.
+pub mod Chunk
