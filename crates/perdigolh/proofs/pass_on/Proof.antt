@@ -29,13 +29,17 @@ returns c = λ e. absurd (false≢true e)
 
 loop-again : tie.Need-loop-again Inv-loop μ-loop
 loop-again c =
-    let l = c .before .before .before .before .before .before .before .before .before .before .before .before .before .before .before .before .before .before .before .before .before .loop in (
+    let fed = c .before .before .before .before .before .before .before .before .before .before .before .before .before in
+    let test = fed .before .before .before .before .before .before in
+    let p = test .before .before in
+    let l = p .loop in (
       search needs,
       search needs,
       search needs,
       search needs,
       search needs,
-      going-on _ (held (l .state) (l .line) (l .ledger) (l .table)) (l .out) (c .before .before .before .before .before .before .before .before .before .before .before .before .before .before .before .before .before .before .before .before .before .before .before .before .before .before .before .args .chunk .now) (l .at) (l .turns) (omega arith) (ltb-true _ _ (c .before .before .before .before .before .before .before .before .before .before .before .before .before .before .before .before .before .before .before .if1 .taken)) (l .inv .5) (c .before .before .before .before .before .before .before .before .before .before .before .before .before .feed .ensures .0),
+      going-on _ (held (l .state) (l .line) (l .ledger) (l .table)) (l .out) (p .before .before .before .before .before .before .args .chunk .now) (l .at) (l .turns) (omega arith)
+          (ltb-true _ _ (test .if1 .taken)) (l .inv .5) (fed .feed .ensures .0),
     )
 
 returns-2 : tie.Need-returns-2 Inv-loop μ-loop

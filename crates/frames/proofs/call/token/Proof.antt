@@ -22,7 +22,23 @@ value-requires-4 : tie.Need-value-requires-4
 value-requires-4 c κs = cut-length (c .before .before .before .before .before .before .before .before .before .before .before .before .args .f .now) 121 32 _ (c .cut5 .ensures) (omega arith)
 
 returns : tie.Need-returns
-returns c = token-asked (c .before .before .before .before .before .before .before .before .before .before .before .before .before .before .before .before .before .before .before .before .before .before .before .before .before .args .f .now) (c .before .before .before .before .before .before .before .before .before .before .before .before .before .before .before .before .before .before .before .before .before .before .before .before .before .args .ledger .now) (c .before .before .before .before .before .before .before .before .before .before .before .before .before .before .before .before .before .before .before .before .before .before .before .before .before .args .table .now) (c .before .before .before .before .before .before .before .before .before .before .before .before .before .before .before .before .before .before .before .before .id .ensures ∙ c .before .before .before .before .before .before .before .before .before .before .before .before .before .before .before .before .before .before .before .before .before .cut .ensures) (c .before .before .before .before .before .before .before .before .before .before .before .before .before .before .before .before .before .before .value .ensures ∙ c .before .before .before .before .before .before .before .before .before .before .before .before .before .before .before .before .before .before .before .cut2 .ensures) (c .before .before .before .before .before .before .before .before .before .before .before .before .before .before .before .before .value2 .ensures ∙ c .before .before .before .before .before .before .before .before .before .before .before .before .before .before .before .before .before .cut3 .ensures) (c .before .before .before .before .before .before .before .before .before .before .before .before .before .before .value3 .ensures ∙ c .before .before .before .before .before .before .before .before .before .before .before .before .before .before .before .cut4 .ensures) (c .before .before .before .before .before .before .before .before .before .before .before .before .value4 .ensures ∙ c .before .before .before .before .before .before .before .before .before .before .before .before .before .cut5 .ensures) (read-at (c .before .before .before .before .before .before .before .before .before .before .before .before .before .before .before .before .before .before .before .before .before .before .before .before .before .args .f .now) 1 8 (c .before .before .before .before .before .before .before .before .before .before .from .ensures) (c .before .before .before .before .before .before .before .before .before .read64 .ensures)) (c .before .before .before .before .from2 .ensures) (c .before .before .token .ensures)
+returns c =
+    let p15 = c .before .before in
+    let p14 = p15 .before .before in
+    let p13 = p14 .before .before .before .before .before in
+    let p12 = p13 .before in
+    let p11 = p12 .before .before in
+    let p10 = p11 .before in
+    let p9 = p10 .before in
+    let p8 = p9 .before in
+    let p7 = p8 .before in
+    let p6 = p7 .before in
+    let p5 = p6 .before in
+    let p4 = p5 .before in
+    let p3 = p4 .before in
+    let p2 = p3 .before in
+    let p1 = p2 .before .before .before .before in
+    token-asked (p1 .args .f .now) (p1 .args .ledger .now) (p1 .args .table .now) (p3 .id .ensures ∙ p2 .cut .ensures) (p5 .value .ensures ∙ p4 .cut2 .ensures) (p7 .value2 .ensures ∙ p6 .cut3 .ensures) (p9 .value3 .ensures ∙ p8 .cut4 .ensures) (p11 .value4 .ensures ∙ p10 .cut5 .ensures) (read-at (p1 .args .f .now) 1 8 (p12 .from .ensures) (p13 .read64 .ensures)) (p14 .from2 .ensures) (p15 .token .ensures)
 
 pub token-spec : {M : Type 1} → statement M
 token-spec =

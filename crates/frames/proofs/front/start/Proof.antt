@@ -7,16 +7,31 @@ use native.Mathlib.Omega.{arith}
 use Rattle.frames.proofs.front.start.Tie as tie
 
 returns : tie.Need-returns
-returns c = (search needs, start-few (c .before .before .before .before .before .before .before .before .before .before .args .f .now) (c .before .before .before .before .before .before .before .before .before .before .args .ledger .now) (c .before .before .before .before .before .before .before .before .before .before .args .used) (omega arith) (c .before .before .before .before .before .long .ensures) (c .before .before .before .before .if1 .taken) (c .before .before .refuse-start .ensures .0) (c .before .before .refuse-start .ensures .1 .1))
+returns c =
+    let p4 = c .before .before in
+    let p3 = p4 .before .before in
+    let p2 = p3 .before in
+    let p1 = p2 .before .before .before .before .before in
+    (search needs, start-few (p1 .args .f .now) (p1 .args .ledger .now) (p1 .args .used) (omega arith) (p2 .long .ensures) (p3 .if1 .taken) (p4 .refuse-start .ensures .0) (p4 .refuse-start .ensures .1 .1))
 
 returns-2 : tie.Need-returns-2
-returns-2 c = (search needs, start-many (c .before .before .before .before .before .before .before .before .before .before .before .args .f .now) (c .before .before .before .before .before .before .before .before .before .before .before .args .ledger .now) (c .before .before .before .before .before .before .before .before .before .before .before .args .used) (omega arith) (c .before .before .before .before .before .before .long .ensures) (c .before .before .before .before .if2 .taken) (c .before .before .refuse-start2 .ensures .0) (c .before .before .refuse-start2 .ensures .1 .1))
+returns-2 c =
+    let p4 = c .before .before in
+    let p3 = p4 .before .before in
+    let p2 = p3 .before .before in
+    let p1 = p2 .before .before .before .before .before in
+    (search needs, start-many (p1 .args .f .now) (p1 .args .ledger .now) (p1 .args .used) (omega arith) (p2 .long .ensures) (p3 .if2 .taken) (p4 .refuse-start2 .ensures .0) (p4 .refuse-start2 .ensures .1 .1))
 
 slice-aggregate-start : tie.Need-slice-aggregate-start
 slice-aggregate-start c = sym (length-take-le _ _ (omega arith))
 
 returns-3 : tie.Need-returns-3
-returns-3 c = (search needs, start-done (c .before .before .before .before .before .before .before .before .before .before .before .before .before .before .before .args .f .now) (c .before .before .before .before .before .before .before .before .before .before .before .before .before .before .before .args .ledger .now) (c .before .before .before .before .before .before .before .before .before .before .before .before .before .before .before .args .used) (c .before .before .before .before .before .before .before .before .before .before .long .result) (c .before .before .before .before .before .before .before .before .before .before .long .ensures) (omega arith) (omega arith) (c .before .before .before .before .before .before .before .before .before .before .before .before .before .before .before .pre .1 .1 .0) (c .before .before .before .before .before .before .start .ensures) (c .before .before .write-number .ensures .1))
+returns-3 c =
+    let p4 = c .before .before in
+    let p3 = p4 .before .before .before .before in
+    let p2 = p3 .before .before .before .before in
+    let p1 = p2 .before .before .before .before .before in
+    (search needs, start-done (p1 .args .f .now) (p1 .args .ledger .now) (p1 .args .used) (p2 .long .result) (p2 .long .ensures) (omega arith) (omega arith) (p1 .pre .1 .1 .0) (p3 .start .ensures) (p4 .write-number .ensures .1))
 
 pub start-spec : {M : Type 1} → statement M
 start-spec =
