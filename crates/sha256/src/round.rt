@@ -1,6 +1,7 @@
 // A round (FIPS 180-4, section 6.2.2, step 3), and the sixty-four rounds on a schedule.
 ghost use mathlib.Core.Path.{_≡_};
-ghost use Prim.Native.Nat.{_+_, _≤_};
+ghost use Prim.Native.Nat.{_+_, _≤_, _<_};
+ghost use lib.ListN.{getD};
 ghost use Rattle.sha256.specs.declared.round.Working.{Working};
 ghost use Rattle.sha256.specs.Constants.{K};
 ghost use Rattle.sha256.specs.Round.{T1, T2, round, rounds};
@@ -126,15 +127,23 @@ fn constants() -> [u32; 64]
     K
 }
 
+// Round t.
+fn turn(k: &[u32; 64], w: &[u32; 64], t: usize, s: Working) -> Working
+    requires { ⌜ t < 64 ⌝ }
+    ensures { λ r. ⌜ r ≡ round (getD (now (k .entry)) t 0) (getD (now (w .entry)) t 0) s ⌝ }
+{
+    round(k[t], w[t], s)
+}
+
 // Four rounds, from round t on: in a row, so that the words are moved from variable to variable once and not four times.
 fn four(k: &[u32; 64], w: &[u32; 64], t: usize, s: Working) -> Working
     requires { ⌜ t + 4 ≤ 64 ⌝ }
     ensures { λ r. ⌜ ((s₀ : Working) → now (k .entry) ≡ K → s ≡ rounds (now (w .entry)) s₀ t → r ≡ rounds (now (w .entry)) s₀ (t + 4)) ⌝ }
 {
-    let s1 = round(k[t], w[t], s);
-    let s2 = round(k[t + 1], w[t + 1], s1);
-    let s3 = round(k[t + 2], w[t + 2], s2);
-    round(k[t + 3], w[t + 3], s3)
+    let s1 = turn(k, w, t, s);
+    let s2 = turn(k, w, t + 1, s1);
+    let s3 = turn(k, w, t + 2, s2);
+    turn(k, w, t + 3, s3)
 }
 
 pub fn rounds(w: &[u32; 64], s: Working) -> Working
