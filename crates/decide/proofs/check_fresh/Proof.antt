@@ -12,11 +12,15 @@ returns c = rw (not-true (c .before .before .args .yes) (c .if1 .taken))
 
 returns-2 : tie.Need-returns-2
 unfolding toldIf
-returns-2 c = rw (not-false (c .before .before .before .before .before .args .yes) (c .before .before .before .if1 .left), fresh-told _ _ _ (sym (c .before .before .check .ensures) ∙ c .enum-told2 .given .1))
+returns-2 c =
+    let c5 = c .before .before .before .before .before in
+    rw (not-false (c5 .args .yes) (c .before .before .before .if1 .left), fresh-told _ _ _ (sym (c .before .before .check .ensures) ∙ c .enum-told2 .given .1))
 
 returns-3 : tie.Need-returns-3
 unfolding toldIf
-returns-3 c = rw (not-false (c .before .before .before .before .before .args .yes) (c .before .before .before .if1 .left), fresh-told _ _ _ (sym (c .before .before .check .ensures) ∙ c .enum-told .given .1))
+returns-3 c =
+    let c5 = c .before .before .before .before .before in
+    rw (not-false (c5 .args .yes) (c .before .before .before .if1 .left), fresh-told _ _ _ (sym (c .before .before .check .ensures) ∙ c .enum-told .given .1))
 
 pub check-fresh-spec : {M : Type 1} → statement M
 check-fresh-spec =

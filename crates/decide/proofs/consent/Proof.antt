@@ -24,13 +24,22 @@ part-hand-out-end : tie.Need-part-hand-out-end
 part-hand-out-end c = omega (arith, slot-within _ _ (c .before .before .before .before .before .before .before .pre .0))
 
 add-allow : tie.Need-add-allow
-add-allow c = omega (arith, slot-within _ _ (c .before .before .before .before .before .before .before .before .before .before .before .pre .0))
+add-allow c =
+    let c11 = c .before .before .before .before .before .before .before .before .before .before .before in
+    omega (arith, slot-within _ _ (c11 .pre .0))
 
 part-allow-end : tie.Need-part-allow-end
-part-allow-end c = omega (arith, slot-within _ _ (c .before .before .before .before .before .before .before .before .before .before .before .pre .0))
+part-allow-end c =
+    let c11 = c .before .before .before .before .before .before .before .before .before .before .before in
+    omega (arith, slot-within _ _ (c11 .pre .0))
 
 returns : tie.Need-returns
-returns c = consent-written (c .before .before .before .before .before .before .before .before .before .before .before .before .before .before .before .before .before .before .before .before .args .ledger .now) (c .before .before .before .before .before .before .before .before .before .before .before .before .before .before .before .before .before .before .before .before .args .time) (c .before .before .before .before .before .before .before .before .before .before .before .before .before .before .before .before .before .before .before .before .args .k) (c .before .before .before .before .before .before .before .before .before .before .before .before .before .before .before .before .before .before .before .before .pre .0) (c .before .before .before .before .before .before .before .before .before .before .before .before .before .before .before .before .before .before .before .before .args .holder) (c .before .before .before .before .before .before .before .before .before .before .before .before .before .before .before .before .before .before .before .before .args .fresh .now) (c .before .before .before .before .before .before .before .before .before .before .before .before .before .before .before .before .before .before .before .before .args .out .now) _ _ _ _ _ _ ((c .before .before .before .before .before .before .before .before .before .before .before .before .before .before .before .redirect-length) .ensures) ((c .before .before .before .before .before .before .before .before .before .before .before .hand-out) .ensures) ((c .before .before .before .before .before .before .before .allow) .ensures .0) ((c .before .before .before .before .before .before .before .allow) .ensures .1) ((c .before .before .before .set-clock) .ensures) ((c .with) .ensures)
+returns c =
+    let c7 = c .before .before .before .before .before .before .before in
+    let c11 = c7 .before .before .before .before in
+    let c15 = c11 .before .before .before .before in
+    let c20 = c15 .before .before .before .before .before in
+    consent-written (c20 .args .ledger .now) (c20 .args .time) (c20 .args .k) (c20 .pre .0) (c20 .args .holder) (c20 .args .fresh .now) (c20 .args .out .now) _ _ _ _ _ _ ((c15 .redirect-length) .ensures) ((c11 .hand-out) .ensures) ((c7 .allow) .ensures .0) ((c7 .allow) .ensures .1) ((c .before .before .before .set-clock) .ensures) ((c .with) .ensures)
 
 pub consent-spec : {M : Type 1} → statement M
 consent-spec =

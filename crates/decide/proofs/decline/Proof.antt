@@ -9,7 +9,11 @@ use Rattle.decide.proofs.decline.Tie as tie
 
 returns : tie.Need-returns
 unfolding free
-returns c = (c .before .before .clear .ensures ∙ ap blank (c .before .before .before .before .before .before .before .before .pre), c .before .before .before .before .no .ensures ∙ ap (λ (n : ℕ). answerNo n (c .before .before .before .before .before .before .before .before .args .holder)) (c .before .before .before .before .before .grant .ensures))
+returns c =
+    let c4 = c .before .before .before .before in
+    let c5 = c4 .before in
+    let c8 = c5 .before .before .before in
+    (c .before .before .clear .ensures ∙ ap blank (c8 .pre), c4 .no .ensures ∙ ap (λ (n : ℕ). answerNo n (c8 .args .holder)) (c5 .grant .ensures))
 
 pub decline-spec : {M : Type 1} → statement M
 decline-spec = tie.close (tie.spec (search needs) (search needs) (search needs) (search needs) returns)

@@ -7,7 +7,9 @@ use mathlib.Core.Path.{ap, _∙_}
 use Rattle.decide.proofs.hand_out.Tie as tie
 
 returns : tie.Need-returns
-returns c = c .before .before .put .ensures ∙ ap (λ (x : List ℕ). put (c .before .before .before .before .before .before .before .args .out .now) 0 x) (c .before .before .before .cut .ensures)
+returns c =
+    let c7 = c .before .before .before .before .before .before .before in
+    c .before .before .put .ensures ∙ ap (λ (x : List ℕ). put (c7 .args .out .now) 0 x) (c .before .before .before .cut .ensures)
 
 pub hand-out-spec : {M : Type 1} → statement M
 hand-out-spec = tie.close (tie.spec (search needs) (search needs) (search needs) returns)

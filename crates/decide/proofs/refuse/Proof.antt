@@ -24,13 +24,22 @@ part-hand-out-end : tie.Need-part-hand-out-end
 part-hand-out-end c = omega (arith, slot-within _ _ (c .before .before .before .before .before .before .before .pre))
 
 add-decline : tie.Need-add-decline
-add-decline c = omega (arith, slot-within _ _ (c .before .before .before .before .before .before .before .before .before .before .before .pre))
+add-decline c =
+    let c11 = c .before .before .before .before .before .before .before .before .before .before .before in
+    omega (arith, slot-within _ _ (c11 .pre))
 
 part-decline-end : tie.Need-part-decline-end
-part-decline-end c = omega (arith, slot-within _ _ (c .before .before .before .before .before .before .before .before .before .before .before .pre))
+part-decline-end c =
+    let c11 = c .before .before .before .before .before .before .before .before .before .before .before in
+    omega (arith, slot-within _ _ (c11 .pre))
 
 returns : tie.Need-returns
-returns c = decline-written (c .before .before .before .before .before .before .before .before .before .before .before .before .before .before .before .before .before .before .before .before .args .ledger .now) (c .before .before .before .before .before .before .before .before .before .before .before .before .before .before .before .before .before .before .before .before .args .time) (c .before .before .before .before .before .before .before .before .before .before .before .before .before .before .before .before .before .before .before .before .args .k) (c .before .before .before .before .before .before .before .before .before .before .before .before .before .before .before .before .before .before .before .before .pre) (c .before .before .before .before .before .before .before .before .before .before .before .before .before .before .before .before .before .before .before .before .args .holder) (c .before .before .before .before .before .before .before .before .before .before .before .before .before .before .before .before .before .before .before .before .args .out .now) _ _ _ _ _ _ ((c .before .before .before .before .before .before .before .before .before .before .before .before .before .before .before .redirect-length) .ensures) ((c .before .before .before .before .before .before .before .before .before .before .before .hand-out) .ensures) ((c .before .before .before .before .before .before .before .decline) .ensures .0) ((c .before .before .before .before .before .before .before .decline) .ensures .1) ((c .before .before .before .set-clock) .ensures) ((c .with) .ensures)
+returns c =
+    let c7 = c .before .before .before .before .before .before .before in
+    let c11 = c7 .before .before .before .before in
+    let c15 = c11 .before .before .before .before in
+    let c20 = c15 .before .before .before .before .before in
+    decline-written (c20 .args .ledger .now) (c20 .args .time) (c20 .args .k) (c20 .pre) (c20 .args .holder) (c20 .args .out .now) _ _ _ _ _ _ ((c15 .redirect-length) .ensures) ((c11 .hand-out) .ensures) ((c7 .decline) .ensures .0) ((c7 .decline) .ensures .1) ((c .before .before .before .set-clock) .ensures) ((c .with) .ensures)
 
 pub refuse-spec : {M : Type 1} → statement M
 refuse-spec =

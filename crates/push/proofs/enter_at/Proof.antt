@@ -60,7 +60,11 @@ same-length c = search needs
 
 -- src/push.rt:44:1
 returns : tie.Need-returns
-returns c = push-written (c .before .before .before .before .before .before .before .before .before .before .before .before .before .before .before .args .ledger .now) (c .before .before .before .before .before .before .before .before .before .before .before .before .before .before .before .args .time) (c .before .before .before .before .before .before .before .before .before .before .before .before .before .before .before .args .k) (c .before .before .before .before .before .before .before .before .before .before .before .before .before .before .before .pre .0) _ _ _ _ _ _ _ _ _ _ ((c .before .before .before .before .before .before .before .before .before .before .enter) .ensures .0) ((c .before .before .before .before .before .before .before .before .before .before .enter) .ensures .1) ((c .before .before .before .before .before .before .set-next) .ensures) ((c .before .before .set-clock) .ensures)
+returns c =
+    let c6 = c .before .before .before .before .before .before in
+    let c10 = c6 .before .before .before .before in
+    let c15 = c10 .before .before .before .before .before in
+    push-written (c15 .args .ledger .now) (c15 .args .time) (c15 .args .k) (c15 .pre .0) _ _ _ _ _ _ _ _ _ _ ((c10 .enter) .ensures .0) ((c10 .enter) .ensures .1) ((c6 .set-next) .ensures) ((c .before .before .set-clock) .ensures)
 
 pub enter-at-spec : {M : Type 1} → statement M
 enter-at-spec =

@@ -50,13 +50,20 @@ texts-yes : (c : tie.After-enum-told8) → (redirectFormed ((c .before .before .
 texts-yes c = texts-told _ _ _ (sym ((c .before .before .texts) .ensures) ∙ (c .enum-told8) .given .1)
 
 permits : (c : tie.After-permitted) → c .permitted .result ≡ permitted (asker ((c .before .before .before .before .before .before .before .before .before .before .before .before .before .before .before .before .before .before .before .before .before .before .before .args .table) .now) (request (c .before .before .before .before .before .before .before .before .before .before .before .before .before .before .before .before .before .before .before .before .before .before .before)))
-permits c = c .permitted .ensures ∙ ap (λ (k : ℕ). permitted (client ((c .before .before .before .before .before .before .before .before .before .before .before .before .before .before .before .before .before .before .before .before .before .before .before .args .table) .now) k)) (sym (asker-at (c .before .before .before .before .before)))
+permits c =
+    let c5 = c .before .before .before .before .before in
+    let c23 = c5 .before .before .before .before .before .before .before .before .before .before .before .before .before .before .before .before .before .before in
+    c .permitted .ensures ∙ ap (λ (k : ℕ). permitted (client ((c23 .args .table) .now) k)) (sym (asker-at c5))
 
 scope-yes : (c : tie.After-bits) → scopeFits (c .before .before .before .before .before .before .before .before .before .before .before .before .before .before .before .before .before .before .before .before .before .before .before .before .before .before .args .scope) (permitted (asker ((c .before .before .before .before .before .before .before .before .before .before .before .before .before .before .before .before .before .before .before .before .before .before .before .before .before .before .args .table) .now) (request (c .before .before .before .before .before .before .before .before .before .before .before .before .before .before .before .before .before .before .before .before .before .before .before .before .before .before)))) ≡ true
-scope-yes c = scope-told _ _ _ (ap (toldScope (c .before .before .before .before .before .before .before .before .before .before .before .before .before .before .before .before .before .before .before .before .before .before .before .before .before .before .args .scope)) (sym (permits (c .before .before .before))) ∙ sym ((c .before .before .scope) .ensures) ∙ (c .bits) .given .1)
+scope-yes c =
+    let c26 = c .before .before .before .before .before .before .before .before .before .before .before .before .before .before .before .before .before .before .before .before .before .before .before .before .before .before in
+    scope-told _ _ _ (ap (toldScope (c26 .args .scope)) (sym (permits (c .before .before .before))) ∙ sym ((c .before .before .scope) .ensures) ∙ (c .bits) .given .1)
 
 bits-are : (c : tie.After-bits) → c .bits .given .0 .0 ≡ (c .before .before .before .before .before .before .before .before .before .before .before .before .before .before .before .before .before .before .before .before .before .before .before .before .before .before .args .scope)
-bits-are c = sym (scope-bits _ _ _ (ap (toldScope (c .before .before .before .before .before .before .before .before .before .before .before .before .before .before .before .before .before .before .before .before .before .before .before .before .before .before .args .scope)) (sym (permits (c .before .before .before))) ∙ sym ((c .before .before .scope) .ensures) ∙ (c .bits) .given .1))
+bits-are c =
+    let c26 = c .before .before .before .before .before .before .before .before .before .before .before .before .before .before .before .before .before .before .before .before .before .before .before .before .before .before in
+    sym (scope-bits _ _ _ (ap (toldScope (c26 .args .scope)) (sym (permits (c .before .before .before))) ∙ sym ((c .before .before .scope) .ensures) ∙ (c .bits) .given .1))
 
 fresh-yes : (c : tie.After-enum-told11) → taken (l (c .before .before .before .before .before .before .before .before .before .before .before .before .before .before .before .before .before .before .before .before .before .before .before .before .before .before .before .before .before .before .before)) ((c .before .before .before .before .before .before .before .before .before .before .before .before .before .before .before .before .before .before .before .before .before .before .before .before .before .before .before .before .before .before .before .args .fresh) .now) ≡ false
 fresh-yes c = fresh-told _ _ _ (sym ((c .before .before .check4) .ensures) ∙ (c .enum-told11) .given .1)
@@ -74,37 +81,109 @@ number-yes : (c : tie.After-enum-told14) → eqb (nextNumber (l (c .before .befo
 number-yes c = told _ _ (ap (λ (n : ℕ). toldIf (eqb n lastNumber)) (sym ((c .before .before .before .next-number) .ensures)) ∙ sym ((c .before .before .number) .ensures) ∙ (c .enum-told14) .given .1)
 
 returns : tie.Need-returns
-returns c = refuses ((c .refused) .ensures) (push-1 (l (c .before .before .before .before .before .before .before .before .before)) (c .before .before .before .before .before .before .before .before .before .args .time) ((c .before .before .before .before .before .before .before .before .before .args .table) .now) (request (c .before .before .before .before .before .before .before .before .before)) (sound-told _ _ (sym ((c .before .before .before .check) .ensures) ∙ (c .before .enum-told2) .given .1)))
+returns c =
+    let c9 = c .before .before .before .before .before .before .before .before .before in
+    refuses ((c .refused) .ensures) (push-1 (l c9) (c9 .args .time) ((c9 .args .table) .now) (request c9) (sound-told _ _ (sym ((c .before .before .before .check) .ensures) ∙ (c .before .enum-told2) .given .1)))
 
 returns-2 : tie.Need-returns-2
-returns-2 c = refuses ((c .refused2) .ensures) (push-2 (l (c .before .before .before .before .before .before .before .before .before .before .before .before .before)) (c .before .before .before .before .before .before .before .before .before .before .before .before .before .args .time) ((c .before .before .before .before .before .before .before .before .before .before .before .before .before .args .table) .now) (request (c .before .before .before .before .before .before .before .before .before .before .before .before .before)) (sound-yes (c .before .before .before .before .before)) (time-told _ _ _ (sym ((c .before .before .before .check2) .ensures) ∙ (c .before .enum-told4) .given .1)))
+returns-2 c =
+    let c5 = c .before .before .before .before .before in
+    let c13 = c5 .before .before .before .before .before .before .before .before in
+    refuses ((c .refused2) .ensures) (push-2 (l c13) (c13 .args .time) ((c13 .args .table) .now) (request c13) (sound-yes c5) (time-told _ _ _ (sym ((c .before .before .before .check2) .ensures) ∙ (c .before .enum-told4) .given .1)))
 
 returns-3 : tie.Need-returns-3
-returns-3 c = refuses ((c .refused3) .ensures) (push-3 (l (c .before .before .before .before .before .before .before .before .before .before .before .before .before .before .before .before)) (c .before .before .before .before .before .before .before .before .before .before .before .before .before .before .before .before .args .time) ((c .before .before .before .before .before .before .before .before .before .before .before .before .before .before .before .before .args .table) .now) (request (c .before .before .before .before .before .before .before .before .before .before .before .before .before .before .before .before)) (sound-yes (c .before .before .before .before .before .before .before .before)) (timely-yes (c .before .before .before .before)) (table-told _ _ (sym ((c .before .before .before .check3) .ensures) ∙ (c .before .enum-told6) .given .1)))
+returns-3 c =
+    let c4 = c .before .before .before .before in
+    let c8 = c4 .before .before .before .before in
+    let c16 = c8 .before .before .before .before .before .before .before .before in
+    refuses ((c .refused3) .ensures) (push-3 (l c16) (c16 .args .time) ((c16 .args .table) .now) (request c16) (sound-yes c8) (timely-yes c4) (table-told _ _ (sym ((c .before .before .before .check3) .ensures) ∙ (c .before .enum-told6) .given .1)))
 
 returns-4 : tie.Need-returns-4
-returns-4 c = refuses ((c .refused4) .ensures) (push-4 (l (c .before .before .before .before .before .before .before .before .before .before .before .before .before .before .before .before .before .before .before)) (c .before .before .before .before .before .before .before .before .before .before .before .before .before .before .before .before .before .before .before .args .time) ((c .before .before .before .before .before .before .before .before .before .before .before .before .before .before .before .before .before .before .before .args .table) .now) (request (c .before .before .before .before .before .before .before .before .before .before .before .before .before .before .before .before .before .before .before)) (sound-yes (c .before .before .before .before .before .before .before .before .before .before .before)) (timely-yes (c .before .before .before .before .before .before .before)) (table-yes (c .before .before .before .before)) (known-told _ _ _ _ (sym ((c .before .before .before .find) .ensures) ∙ (c .before .enum-told7) .given .1)))
+returns-4 c =
+    let c4 = c .before .before .before .before in
+    let c7 = c4 .before .before .before in
+    let c11 = c7 .before .before .before .before in
+    let c19 = c11 .before .before .before .before .before .before .before .before in
+    refuses ((c .refused4) .ensures) (push-4 (l c19) (c19 .args .time) ((c19 .args .table) .now) (request c19) (sound-yes c11) (timely-yes c7) (table-yes c4) (known-told _ _ _ _ (sym ((c .before .before .before .find) .ensures) ∙ (c .before .enum-told7) .given .1)))
 
 returns-5 : tie.Need-returns-5
-returns-5 c = refuses ((c .refused5) .ensures) (push-5 (l (c .before .before .before .before .before .before .before .before .before .before .before .before .before .before .before .before .before .before .before .before .before .before .before)) (c .before .before .before .before .before .before .before .before .before .before .before .before .before .before .before .before .before .before .before .before .before .before .before .args .time) ((c .before .before .before .before .before .before .before .before .before .before .before .before .before .before .before .before .before .before .before .before .before .before .before .args .table) .now) (request (c .before .before .before .before .before .before .before .before .before .before .before .before .before .before .before .before .before .before .before .before .before .before .before)) (sound-yes (c .before .before .before .before .before .before .before .before .before .before .before .before .before .before .before)) (timely-yes (c .before .before .before .before .before .before .before .before .before .before .before)) (table-yes (c .before .before .before .before .before .before .before .before)) (known-yes (c .before .before .before .before .before)) (texts-told _ _ _ (sym ((c .before .before .before .texts) .ensures) ∙ (c .before .enum-told9) .given .1)))
+returns-5 c =
+    let c5 = c .before .before .before .before .before in
+    let c8 = c5 .before .before .before in
+    let c11 = c8 .before .before .before in
+    let c15 = c11 .before .before .before .before in
+    let c23 = c15 .before .before .before .before .before .before .before .before in
+    refuses ((c .refused5) .ensures) (push-5 (l c23) (c23 .args .time) ((c23 .args .table) .now) (request c23) (sound-yes c15) (timely-yes c11) (table-yes c8) (known-yes c5) (texts-told _ _ _ (sym ((c .before .before .before .texts) .ensures) ∙ (c .before .enum-told9) .given .1)))
 
 returns-6 : tie.Need-returns-6
-returns-6 c = refuses ((c .refused6) .ensures) (push-6 (l (c .before .before .before .before .before .before .before .before .before .before .before .before .before .before .before .before .before .before .before .before .before .before .before .before .before .before .before)) (c .before .before .before .before .before .before .before .before .before .before .before .before .before .before .before .before .before .before .before .before .before .before .before .before .before .before .before .args .time) ((c .before .before .before .before .before .before .before .before .before .before .before .before .before .before .before .before .before .before .before .before .before .before .before .before .before .before .before .args .table) .now) (request (c .before .before .before .before .before .before .before .before .before .before .before .before .before .before .before .before .before .before .before .before .before .before .before .before .before .before .before)) (sound-yes (c .before .before .before .before .before .before .before .before .before .before .before .before .before .before .before .before .before .before .before)) (timely-yes (c .before .before .before .before .before .before .before .before .before .before .before .before .before .before .before)) (table-yes (c .before .before .before .before .before .before .before .before .before .before .before .before)) (known-yes (c .before .before .before .before .before .before .before .before .before)) (texts-yes (c .before .before .before .before .before)) (scope-told _ _ _ (ap (toldScope (c .before .before .before .before .before .before .before .before .before .before .before .before .before .before .before .before .before .before .before .before .before .before .before .before .before .before .before .args .scope)) (sym (permits (c .before .before .before .before))) ∙ sym ((c .before .before .before .scope) .ensures) ∙ (c .before .enum-told10) .given .1)))
+returns-6 c =
+    let c4 = c .before .before .before .before in
+    let c5 = c4 .before in
+    let c9 = c5 .before .before .before .before in
+    let c12 = c9 .before .before .before in
+    let c15 = c12 .before .before .before in
+    let c19 = c15 .before .before .before .before in
+    let c27 = c19 .before .before .before .before .before .before .before .before in
+    refuses ((c .refused6) .ensures) (push-6 (l c27) (c27 .args .time) ((c27 .args .table) .now) (request c27) (sound-yes c19) (timely-yes c15) (table-yes c12) (known-yes c9) (texts-yes c5) (scope-told _ _ _ (ap (toldScope (c27 .args .scope)) (sym (permits c4)) ∙ sym ((c .before .before .before .scope) .ensures) ∙ (c .before .enum-told10) .given .1)))
 
 returns-7 : tie.Need-returns-7
-returns-7 c = refuses ((c .refused7) .ensures) (push-7 (l (c .before .before .before .before .before .before .before .before .before .before .before .before .before .before .before .before .before .before .before .before .before .before .before .before .before .before .before .before .before .before .before .before)) (c .before .before .before .before .before .before .before .before .before .before .before .before .before .before .before .before .before .before .before .before .before .before .before .before .before .before .before .before .before .before .before .before .args .time) ((c .before .before .before .before .before .before .before .before .before .before .before .before .before .before .before .before .before .before .before .before .before .before .before .before .before .before .before .before .before .before .before .before .args .table) .now) (request (c .before .before .before .before .before .before .before .before .before .before .before .before .before .before .before .before .before .before .before .before .before .before .before .before .before .before .before .before .before .before .before .before)) (sound-yes (c .before .before .before .before .before .before .before .before .before .before .before .before .before .before .before .before .before .before .before .before .before .before .before .before)) (timely-yes (c .before .before .before .before .before .before .before .before .before .before .before .before .before .before .before .before .before .before .before .before)) (table-yes (c .before .before .before .before .before .before .before .before .before .before .before .before .before .before .before .before .before)) (known-yes (c .before .before .before .before .before .before .before .before .before .before .before .before .before .before)) (texts-yes (c .before .before .before .before .before .before .before .before .before .before)) (scope-yes (c .before .before .before .before .before .before)) (fresh-told _ _ _ (sym ((c .before .before .before .check4) .ensures) ∙ (c .before .enum-told12) .given .1)))
+returns-7 c =
+    let c6 = c .before .before .before .before .before .before in
+    let c10 = c6 .before .before .before .before in
+    let c14 = c10 .before .before .before .before in
+    let c17 = c14 .before .before .before in
+    let c20 = c17 .before .before .before in
+    let c24 = c20 .before .before .before .before in
+    let c32 = c24 .before .before .before .before .before .before .before .before in
+    refuses ((c .refused7) .ensures) (push-7 (l c32) (c32 .args .time) ((c32 .args .table) .now) (request c32) (sound-yes c24) (timely-yes c20) (table-yes c17) (known-yes c14) (texts-yes c10) (scope-yes c6) (fresh-told _ _ _ (sym ((c .before .before .before .check4) .ensures) ∙ (c .before .enum-told12) .given .1)))
 
 returns-8 : tie.Need-returns-8
-returns-8 c = refuses ((c .refused8) .ensures) (push-8 (l (c .before .before .before .before .before .before .before .before .before .before .before .before .before .before .before .before .before .before .before .before .before .before .before .before .before .before .before .before .before .before .before .before .before .before .before .before)) (c .before .before .before .before .before .before .before .before .before .before .before .before .before .before .before .before .before .before .before .before .before .before .before .before .before .before .before .before .before .before .before .before .before .before .before .before .args .time) ((c .before .before .before .before .before .before .before .before .before .before .before .before .before .before .before .before .before .before .before .before .before .before .before .before .before .before .before .before .before .before .before .before .before .before .before .before .args .table) .now) (request (c .before .before .before .before .before .before .before .before .before .before .before .before .before .before .before .before .before .before .before .before .before .before .before .before .before .before .before .before .before .before .before .before .before .before .before .before)) (sound-yes (c .before .before .before .before .before .before .before .before .before .before .before .before .before .before .before .before .before .before .before .before .before .before .before .before .before .before .before .before)) (timely-yes (c .before .before .before .before .before .before .before .before .before .before .before .before .before .before .before .before .before .before .before .before .before .before .before .before)) (table-yes (c .before .before .before .before .before .before .before .before .before .before .before .before .before .before .before .before .before .before .before .before .before)) (known-yes (c .before .before .before .before .before .before .before .before .before .before .before .before .before .before .before .before .before .before)) (texts-yes (c .before .before .before .before .before .before .before .before .before .before .before .before .before .before)) (scope-yes (c .before .before .before .before .before .before .before .before .before .before)) (fresh-yes (c .before .before .before .before .before)) (found-told _ _ _ (sym ((c .before .before .before .free) .ensures) ∙ (c .before .enum-told13) .given .1)))
+returns-8 c =
+    let c5 = c .before .before .before .before .before in
+    let c10 = c5 .before .before .before .before .before in
+    let c14 = c10 .before .before .before .before in
+    let c18 = c14 .before .before .before .before in
+    let c21 = c18 .before .before .before in
+    let c24 = c21 .before .before .before in
+    let c28 = c24 .before .before .before .before in
+    let c36 = c28 .before .before .before .before .before .before .before .before in
+    refuses ((c .refused8) .ensures) (push-8 (l c36) (c36 .args .time) ((c36 .args .table) .now) (request c36) (sound-yes c28) (timely-yes c24) (table-yes c21) (known-yes c18) (texts-yes c14) (scope-yes c10) (fresh-yes c5) (found-told _ _ _ (sym ((c .before .before .before .free) .ensures) ∙ (c .before .enum-told13) .given .1)))
 
 returns-9 : tie.Need-returns-9
-returns-9 c = refuses ((c .refused9) .ensures) (push-9 (l (c .before .before .before .before .before .before .before .before .before .before .before .before .before .before .before .before .before .before .before .before .before .before .before .before .before .before .before .before .before .before .before .before .before .before .before .before .before .before .before .before .before .before)) (c .before .before .before .before .before .before .before .before .before .before .before .before .before .before .before .before .before .before .before .before .before .before .before .before .before .before .before .before .before .before .before .before .before .before .before .before .before .before .before .before .before .before .args .time) ((c .before .before .before .before .before .before .before .before .before .before .before .before .before .before .before .before .before .before .before .before .before .before .before .before .before .before .before .before .before .before .before .before .before .before .before .before .before .before .before .before .before .before .args .table) .now) (request (c .before .before .before .before .before .before .before .before .before .before .before .before .before .before .before .before .before .before .before .before .before .before .before .before .before .before .before .before .before .before .before .before .before .before .before .before .before .before .before .before .before .before)) (sound-yes (c .before .before .before .before .before .before .before .before .before .before .before .before .before .before .before .before .before .before .before .before .before .before .before .before .before .before .before .before .before .before .before .before .before .before)) (timely-yes (c .before .before .before .before .before .before .before .before .before .before .before .before .before .before .before .before .before .before .before .before .before .before .before .before .before .before .before .before .before .before)) (table-yes (c .before .before .before .before .before .before .before .before .before .before .before .before .before .before .before .before .before .before .before .before .before .before .before .before .before .before .before)) (known-yes (c .before .before .before .before .before .before .before .before .before .before .before .before .before .before .before .before .before .before .before .before .before .before .before .before)) (texts-yes (c .before .before .before .before .before .before .before .before .before .before .before .before .before .before .before .before .before .before .before .before)) (scope-yes (c .before .before .before .before .before .before .before .before .before .before .before .before .before .before .before .before)) (fresh-yes (c .before .before .before .before .before .before .before .before .before .before .before)) (free-yes (c .before .before .before .before .before .before .before)) (told _ _ (ap (λ (n : ℕ). toldIf (eqb n lastNumber)) (sym ((c .before .before .before .before .next-number) .ensures)) ∙ sym ((c .before .before .before .number) .ensures) ∙ (c .before .enum-told15) .given .1)))
+returns-9 c =
+    let c4 = c .before .before .before .before in
+    let c7 = c4 .before .before .before in
+    let c11 = c7 .before .before .before .before in
+    let c16 = c11 .before .before .before .before .before in
+    let c20 = c16 .before .before .before .before in
+    let c24 = c20 .before .before .before .before in
+    let c27 = c24 .before .before .before in
+    let c30 = c27 .before .before .before in
+    let c34 = c30 .before .before .before .before in
+    let c42 = c34 .before .before .before .before .before .before .before .before in
+    refuses ((c .refused9) .ensures) (push-9 (l c42) (c42 .args .time) ((c42 .args .table) .now) (request c42) (sound-yes c34) (timely-yes c30) (table-yes c27) (known-yes c24) (texts-yes c20) (scope-yes c16) (fresh-yes c11) (free-yes c7) (told _ _ (ap (λ (n : ℕ). toldIf (eqb n lastNumber)) (sym ((c4 .next-number) .ensures)) ∙ sym ((c .before .before .before .number) .ensures) ∙ (c .before .enum-told15) .given .1)))
 
 enter-at-requires : tie.Need-enter-at-requires
-enter-at-requires c κs = ((inside (c .before .before .before .before .before .before .before)), timely-lt _ _ (timely-yes (c .before .before .before .before .before .before .before .before .before .before .before .before .before .before .before .before .before .before .before .before .before .before .before .before .before .before .before .before .before .before)), below-last _ _ (number-yes (c .before)) ((c .before .before .before .before .next-number) .ensures) (omega arith))
+enter-at-requires c κs =
+    let c4 = c .before .before .before .before in
+    let c7 = c4 .before .before .before in
+    let c30 = c7 .before .before .before .before .before .before .before .before .before .before .before .before .before .before .before .before .before .before .before .before .before .before .before in
+    ((inside c7), timely-lt _ _ (timely-yes c30), below-last _ _ (number-yes (c .before)) ((c4 .next-number) .ensures) (omega arith))
 
 returns-10 : tie.Need-returns-10
-returns-10 c = ((c .before .before .enter-at) .ensures) ∙ push-at (l (c .before .before .before .before .before .before .before .before .before .before .before .before .before .before .before .before .before .before .before .before .before .before .before .before .before .before .before .before .before .before .before .before .before .before .before .before .before .before .before .before .before .before .before .before .before)) (c .before .before .before .before .before .before .before .before .before .before .before .before .before .before .before .before .before .before .before .before .before .before .before .before .before .before .before .before .before .before .before .before .before .before .before .before .before .before .before .before .before .before .before .before .before .args .time) ((c .before .before .before .before .before .before .before .before .before .before .before .before .before .before .before .before .before .before .before .before .before .before .before .before .before .before .before .before .before .before .before .before .before .before .before .before .before .before .before .before .before .before .before .before .before .args .table) .now) (request (c .before .before .before .before .before .before .before .before .before .before .before .before .before .before .before .before .before .before .before .before .before .before .before .before .before .before .before .before .before .before .before .before .before .before .before .before .before .before .before .before .before .before .before .before .before)) _ _ _ (free-at (c .before .before .before .before .before .before .before .before .before .before)) (bits-are (c .before .before .before .before .before .before .before .before .before .before .before .before .before .before .before .before .before .before .before)) ((c .before .before .before .before .before .before .before .next-number) .ensures) ∙ sym (push-done (l (c .before .before .before .before .before .before .before .before .before .before .before .before .before .before .before .before .before .before .before .before .before .before .before .before .before .before .before .before .before .before .before .before .before .before .before .before .before .before .before .before .before .before .before .before .before)) (c .before .before .before .before .before .before .before .before .before .before .before .before .before .before .before .before .before .before .before .before .before .before .before .before .before .before .before .before .before .before .before .before .before .before .before .before .before .before .before .before .before .before .before .before .before .args .time) ((c .before .before .before .before .before .before .before .before .before .before .before .before .before .before .before .before .before .before .before .before .before .before .before .before .before .before .before .before .before .before .before .before .before .before .before .before .before .before .before .before .before .before .before .before .before .args .table) .now) (request (c .before .before .before .before .before .before .before .before .before .before .before .before .before .before .before .before .before .before .before .before .before .before .before .before .before .before .before .before .before .before .before .before .before .before .before .before .before .before .before .before .before .before .before .before .before)) (sound-yes (c .before .before .before .before .before .before .before .before .before .before .before .before .before .before .before .before .before .before .before .before .before .before .before .before .before .before .before .before .before .before .before .before .before .before .before .before .before)) (timely-yes (c .before .before .before .before .before .before .before .before .before .before .before .before .before .before .before .before .before .before .before .before .before .before .before .before .before .before .before .before .before .before .before .before .before)) (table-yes (c .before .before .before .before .before .before .before .before .before .before .before .before .before .before .before .before .before .before .before .before .before .before .before .before .before .before .before .before .before .before)) (known-yes (c .before .before .before .before .before .before .before .before .before .before .before .before .before .before .before .before .before .before .before .before .before .before .before .before .before .before .before)) (texts-yes (c .before .before .before .before .before .before .before .before .before .before .before .before .before .before .before .before .before .before .before .before .before .before .before)) (scope-yes (c .before .before .before .before .before .before .before .before .before .before .before .before .before .before .before .before .before .before .before)) (fresh-yes (c .before .before .before .before .before .before .before .before .before .before .before .before .before .before)) (free-yes (c .before .before .before .before .before .before .before .before .before .before)) (number-yes (c .before .before .before .before)))
+returns-10 c =
+    let c4 = c .before .before .before .before in
+    let c7 = c4 .before .before .before in
+    let c10 = c7 .before .before .before in
+    let c14 = c10 .before .before .before .before in
+    let c19 = c14 .before .before .before .before .before in
+    let c23 = c19 .before .before .before .before in
+    let c27 = c23 .before .before .before .before in
+    let c30 = c27 .before .before .before in
+    let c33 = c30 .before .before .before in
+    let c37 = c33 .before .before .before .before in
+    let c45 = c37 .before .before .before .before .before .before .before .before in
+    ((c .before .before .enter-at) .ensures) ∙ push-at (l c45) (c45 .args .time) ((c45 .args .table) .now) (request c45) _ _ _ (free-at c10) (bits-are c19) ((c7 .next-number) .ensures) ∙ sym (push-done (l c45) (c45 .args .time) ((c45 .args .table) .now) (request c45) (sound-yes c37) (timely-yes c33) (table-yes c30) (known-yes c27) (texts-yes c23) (scope-yes c19) (fresh-yes c14) (free-yes c10) (number-yes c4))
 
 pub push-spec : {M : Type 1} → statement M
 push-spec =

@@ -5,7 +5,10 @@ use mathlib.Core.Path.{sym, _∙_}
 use Rattle.resource.proofs.resource.Tie as tie
 
 returns : tie.Need-returns
-returns c = resource-granted _ _ _ _ _ (sym ((c .before .before .before .before .before .before .before .look) .ensures) ∙ (c .before .before .before .before .before .reading) .given .1) ((c .before .before .set-clock) .ensures)
+returns c =
+    let c5 = c .before .before .before .before .before in
+    let c7 = c5 .before .before in
+    resource-granted _ _ _ _ _ (sym ((c7 .look) .ensures) ∙ (c5 .reading) .given .1) ((c .before .before .set-clock) .ensures)
 
 returns-2 : tie.Need-returns-2
 returns-2 c = resource-refused _ _ _ _ _ (sym ((c .before .before .before .before .look) .ensures) ∙ (c .before .before .reading2) .given .1) ((c .refused) .ensures)

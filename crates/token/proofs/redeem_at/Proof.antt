@@ -51,7 +51,10 @@ same-length c = search needs
 
 -- src/token.rt:42:1
 returns : tie.Need-returns
-returns c = token-written (c .before .before .before .before .before .before .before .before .before .args .ledger .now) (c .before .before .before .before .before .before .before .before .before .args .time) (c .before .before .before .before .before .before .before .before .before .args .k) (c .before .before .before .before .before .before .before .before .before .pre .0) _ _ _ _ _ ((c .before .before .before .before .before .before .redeem) .ensures .0) ((c .before .before .before .before .before .before .redeem) .ensures .1) ((c .before .before .set-clock) .ensures)
+returns c =
+    let c6 = c .before .before .before .before .before .before in
+    let c9 = c6 .before .before .before in
+    token-written (c9 .args .ledger .now) (c9 .args .time) (c9 .args .k) (c9 .pre .0) _ _ _ _ _ ((c6 .redeem) .ensures .0) ((c6 .redeem) .ensures .1) ((c .before .before .set-clock) .ensures)
 
 pub redeem-at-spec : {M : Type 1} → statement M
 redeem-at-spec =
