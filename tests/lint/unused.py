@@ -10,7 +10,7 @@ of src/. A name is reached from a root, or from a name that is reached and has i
 import. Roots are `main`, exported functions, the proofs of functions (`NAME-spec` in a Proof.antt), and what a page of docs/ or README
 cites or quotes; and a function that takes nothing and answers a constant, whose contract ties it to its definition. The table of docs/OUTCOMES.md is no root: it is written from the sources. Fields and variants are not looked at.
 A word stands for a name wherever it is no projection, so that a local variable can hide an unused name, and a finding is one.
-An import is unused where no text of its file has the name.
+An import is unused where no text of its file has the name, a crate of crates.txt where no source of the other has it.
 """
 import argparse
 import re
@@ -230,6 +230,16 @@ class Tree:
             for path, block in BLOCK.findall(text):
                 yield from ((path, m.group(1)) for line in block.split("\n") if (m := DECLARED.match(line) or SIGNATURE.match(line)))
 
+    def unused_crates(self):
+        """Each crate with one that it lists and does not name."""
+        for line in (self.top / "crates.txt").read_text(encoding="utf8").splitlines():
+            crate, _, below = line.partition("#")[0].partition(":")
+            sources = [path for path in self.paths if path.startswith(f"crates/{crate.strip()}/")]
+            text = "\n".join((self.top / path).read_text(encoding="utf8") for path in sources)
+            for name in below.split():
+                if not re.search(rf"Rattle\.{name}\.|\b{name}::", text):
+                    yield crate.strip(), name
+
     def live(self):
         waiting = [(path, name) for path, file in self.files.items() for name in file.roots] + list(self.pages())
         reached = set()
@@ -251,11 +261,13 @@ def check(top):
     reached = tree.live()
     unused = [f"{path}: nothing reaches {name}" for path, file in tree.files.items() for name in file.names if (path, name) not in reached]
     imports = [f"{path}: imports {name} and does not use it" for path, file in tree.files.items() for name in file.unused_imports()]
-    return len(reached), unused + imports if tree.files else [f"{top} has no sources"]
+    crates = [f"crates.txt: {crate} lists {below} and does not use it" for crate, below in tree.unused_crates()]
+    return len(reached), unused + imports + crates if tree.files else [f"{top} has no sources"]
 
 
 # A made-up tree, and the findings in it.
 SAMPLE = {
+    "crates.txt": "# ground\na:\nb: a c\n",
     "README.md": "`crates/a/specs/Cited.antt: cited`\n",
     "docs/PROMISES.md": "`crates/a/proofs/Laws.antt: law`, `crates/a/src/lib.rt: T::cited`\n\n```antt crates/a/specs/Cited.antt\nquoted : ℕ\n```\n",
     "docs/OUTCOMES.md": "<!-- functions -->\n| `crates/a/src/lib.rt: listed` |\n<!-- end -->\n",
@@ -345,6 +357,7 @@ FOUND = [
     ("crates/a/proofs/Laws.antt", "imports fewer"),
     ("crates/a/proofs/f/Proof.antt", "imports needed"),
     ("crates/a/src/lib.rt", "imports idle"),
+    ("crates.txt", "b lists c"),
 ]
 
 
