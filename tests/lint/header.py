@@ -2,7 +2,7 @@
 """include/perdigolh.h and bindings/rust say of the exported calls what crates/front and the crates below it say.
 
 Read from both sides and compared: the functions, their arguments in order with names and types, what they answer; the structs with
-their fields in order; the numbers with their names and words; the sizes and lifetimes. A slice is a pointer and a length, an array
+their fields in order; the numbers with their names and words; the sizes and lifetimes; that YES is the one yes and NO none. A slice is a pointer and a length, an array
 behind a reference a pointer to its first byte.
 
   tests/lint/header.py               compare
@@ -168,6 +168,10 @@ def results():
         said = re.search(rf"const {name}: \w+ = (\d+);", library)
         yield f"bindings: {name}", said and int(said.group(1)), constant(path, origin)
 
+    yes = constant("front/src/choice.rt", "Choice::YES")
+    for side, said in (("header", re.search(r"#define PERDIGOLH_NO (\d+)\n", header)), ("bindings", re.search(r"const NO: u8 = (\d+);", library))):
+        yield f"{side}: NO is a no", said is not None and int(said.group(1)) != yes, True
+
     for call, order in orders().items():
         about = re.search(rf"/\*((?:(?!\*/).)*)\*/\s*\w+ perdigolh_{call}\(", header, re.S).group(1)
         said = [int(n) for n in re.findall(r"\d+", re.search(r"Checks[^:]*: ([^.]*)\.", about).group(1).split("for")[0])]
@@ -199,6 +203,9 @@ SPOILS = [
     (HEADER, "#define PERDIGOLH_CODE_LIFETIME 60", "#define PERDIGOLH_CODE_LIFETIME 61"),
     (HEADER, "Checks, in order: 1, 2, 17, 11, 18, 6, 19.", "Checks, in order: 1, 2, 17, 18, 11, 6, 19."),
     (HEADER, "PERDIGOLH_YES 1", "PERDIGOLH_YES 2"),
+    (HEADER, "PERDIGOLH_NO 0", "PERDIGOLH_NO 1"),
+    (HEADER, "#define PERDIGOLH_NO 0\n", ""),
+    (LIBRARY, "const NO: u8 = 0", "const NO: u8 = 1"),
     (RAW, "verifier: *const u8", "verifier: *mut u8"),
     (RAW, "presented: *const [u8; 32],\n        code", "code: *const [u8; 32],\n        presented"),
     (RAW, "    pub expiry: u64,\n", ""),
