@@ -1,0 +1,4 @@
+-- Demands 1 and 2, as values of their records.
+pub mod Turning
+pub mod Rows
+pub mod Demand1
