@@ -307,6 +307,17 @@ module _ (l : List ℕ) (t : ℕ) where
         long = length-clock t (swept t l) ∙ n;
       })
 
+-- ---- start, where the length is right
+
+pub start-writes : (l : List ℕ) → (start l) .number ≡ done → (sized l ≡ true) × ((start l) .ledger ≡ fresh (length l))
+unfolding start
+start-writes l = by (sized l)
+  where
+    by : (b : Bool) → (cond b (leftAt done (fresh (length l))) (leftAt (numberOf LedgerUnsound) l)) .number ≡ done
+        → (b ≡ true) × ((cond b (leftAt done (fresh (length l))) (leftAt (numberOf LedgerUnsound) l)) .ledger ≡ fresh (length l))
+    by true e = (refl, refl)
+    by false e = absurd (number-refused LedgerUnsound e)
+
 -- ---- "A refusal .. changes no lent byte, clock included."
 
 pub push-unchanged : (l : List ℕ) (t : ℕ) (table : List ℕ) (p : PushRequest) → (push l t table p) .answer .number ≢ done → (push l t table p) .ledger ≡ l
