@@ -10,21 +10,26 @@ use Rattle.octets.specs.Lists.{some}
 use Rattle.octets.specs.Parts.{zeros}
 use Rattle.octets.specs.Plain.{AllZero}
 use Rattle.octets.proofs.Bytes.{zeros-say}
+use Rattle.ledger.specs.Sound.{sound}
+use Rattle.ledger.specs.Checks.{untimely}
 use Rattle.upkeep.specs.Sound.{SoundLedger}
 use Rattle.upkeep.proofs.Says.{either}
+use Rattle.upkeep.proofs.Plain.{ledger-says}
 use Rattle.clients.specs.Plain.{SoundTable}
 use Rattle.desk.specs.Answers.{numberOf, done}
-use Rattle.desk.specs.Requests.{PushRequest, DecideRequest, TokenRequest, ResourceRequest}
 use Rattle.desk.specs.Push.{pushAt}
 use Rattle.desk.specs.Decide.{consentAt, declineAt}
 use Rattle.desk.specs.Token.{tokenAt}
 use Rattle.desk.specs.declared.answer.Refusal.{Refusal}
-use Rattle.desk.specs.declared.answer.Refusal.the-variants.{LedgerUnsound, TableUnsound}
+use Rattle.desk.specs.declared.answer.Refusal.the-variants.{LedgerUnsound, TimeWrong, TableUnsound}
+use Rattle.conduct.specs.Conditions.{InTime}
 use Rattle.conduct.proofs.Turns.{number-refused}
+use Rattle.conduct.proofs.Readings.{time-says}
 use Rattle.conduct.proofs.Rows.{start-numbers, push-numbers, decide-numbers, token-numbers, resource-numbers, sweep-numbers, push-cases, decide-cases, token-cases, resource-cases, sweep-cases}
 use Rattle.conduct.proofs.Alone.{either-way, start-unchanged, push-unchanged, decide-unchanged, token-unchanged, resource-unchanged, sweep-unchanged}
 use Rattle.demands.specs.Calls.{Start, Call, start, push, decide, token, resource, sweep, kindOf, lent, four, three, leaves}
-use Rattle.demands.specs.Demand1.{numbers, In, excepted, readsTable, Begun, Demand1}
+use Rattle.demands.specs.Demand1.{numbers, In, readsTable, Demand1}
+use Rattle.demands.specs.Rows.{Not, Row, _given_, Turn, begins, rows}
 use Rattle.demands.proofs.Rows.{turns}
 
 -- ---- a number of the call's own list
@@ -52,16 +57,42 @@ ledger-first l table (token t q) n u = turns l table (token t q) LedgerUnsound .
 ledger-first l table (resource t q) n u = turns l table (resource t q) LedgerUnsound .1 (inl (u, refl))
 ledger-first l table (sweep t) n u = turns l table (sweep t) LedgerUnsound .1 (inl (u, refl))
 
-table-third : (l table : List ℕ) (c : Call) → readsTable (kindOf c) ≡ true → Begun l c → (SoundTable table → ⊥)
+-- 1 and 2 are not given: the ledger is sound and the time in order
+sound-passed : (l : List ℕ) (n : ℕ) → ((SoundLedger l → ⊥) → n ≡ numberOf LedgerUnsound) → n ≢ numberOf LedgerUnsound → SoundLedger l
+sound-passed l n f d = go (sound l) refl
+  where
+    go : (b : Bool) → sound l ≡ b → SoundLedger l
+    go true e = ledger-says l .0 e
+    go false e = absurd (d (f (λ s. true≢false (sym (ledger-says l .1 s) ∙ e))))
+
+time-passed : (l : List ℕ) (t n : ℕ) → ((InTime l t → ⊥) → n ≡ numberOf TimeWrong) → n ≢ numberOf TimeWrong → InTime l t
+time-passed l t n f d = go (untimely l t) refl
+  where
+    go : (b : Bool) → untimely l t ≡ b → InTime l t
+    go false e = time-says l t .0 e
+    go true e = absurd (d (f (λ i. true≢false (sym e ∙ time-says l t .1 i))))
+
+-- then 3 is next for a call that reads the table
+third : (l table : List ℕ) (t : ℕ) (c : Call) (rs : List Row)
+    → rows l table c ≡ begins l t ((TableUnsound given Not (SoundTable table)) ∷ rs)
+    → leaves l table c .number ≢ numberOf LedgerUnsound → leaves l table c .number ≢ numberOf TimeWrong → (SoundTable table → ⊥)
     → leaves l table c .number ≡ numberOf TableUnsound
-table-third l table start e b u = absurd (false≢true e)
-table-third l table (push t p) e b u =
-    turns l table (push t p) TableUnsound .1 (inr (λ n. n (b .0), inr (λ n. n (b .1), inl (u, refl))))
-table-third l table (decide t d out) e b u = absurd (false≢true e)
-table-third l table (token t q) e b u =
-    turns l table (token t q) TableUnsound .1 (inr (λ n. n (b .0), inr (λ n. n (b .1), inl (u, refl))))
-table-third l table (resource t q) e b u = absurd (false≢true e)
-table-third l table (sweep t) e b u = absurd (false≢true e)
+third l table t c rs e a b u =
+    let at : (why : Refusal) → Turn why (begins l t ((TableUnsound given Not (SoundTable table)) ∷ rs)) → leaves l table c .number ≡ numberOf why
+    = λ why x. turns l table c why .1 (rw e x) in
+    let s = sound-passed l (leaves l table c .number) (λ n. at LedgerUnsound (inl (n, refl))) a in
+    let i = time-passed l t (leaves l table c .number) (λ n. at TimeWrong (inr (λ m. m s, inl (n, refl)))) b in
+    at TableUnsound (inr (λ m. m s, inr (λ m. m i, inl (u, refl))))
+
+table-third : (l table : List ℕ) (c : Call) → readsTable (kindOf c) ≡ true
+    → leaves l table c .number ≢ numberOf LedgerUnsound → leaves l table c .number ≢ numberOf TimeWrong → (SoundTable table → ⊥)
+    → leaves l table c .number ≡ numberOf TableUnsound
+table-third l table start e = absurd (false≢true e)
+table-third l table (push t p) e = third l table t (push t p) _ refl
+table-third l table (decide t d out) e = absurd (false≢true e)
+table-third l table (token t q) e = third l table t (token t q) _ refl
+table-third l table (resource t q) e = absurd (false≢true e)
+table-third l table (sweep t) e = absurd (false≢true e)
 
 no-table : (l table other : List ℕ) (c : Call) → readsTable (kindOf c) ≡ false → leaves l table c ≡ leaves l other c
 no-table l table other start e = refl

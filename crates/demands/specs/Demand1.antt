@@ -9,9 +9,8 @@ use Rattle.upkeep.specs.Sound.{SoundLedger}
 use Rattle.clients.specs.Plain.{SoundTable}
 use Rattle.desk.specs.Answers.{numberOf, done}
 use Rattle.desk.specs.declared.answer.Refusal.{Refusal}
-use Rattle.desk.specs.declared.answer.Refusal.the-variants.{LedgerUnsound, TableUnsound}
-use Rattle.conduct.specs.Conditions.{InTime}
-use Rattle.demands.specs.Calls.{Kind, Start, Push, Decide, Token, Resource, Sweep, Call, start, push, decide, token, resource, sweep, kindOf, lent, leaves}
+use Rattle.desk.specs.declared.answer.Refusal.the-variants.{LedgerUnsound, TimeWrong, TableUnsound}
+use Rattle.demands.specs.Calls.{Kind, Start, Push, Decide, Token, Resource, Sweep, Call, kindOf, lent, leaves}
 
 -- the numbers of each call's refusals, in the order of its checks
 abbrev pub numbers : Kind → List ℕ
@@ -40,23 +39,16 @@ readsTable Token = true
 readsTable Resource = false
 readsTable Sweep = false
 
--- the ledger is found sound and the time in order: 1 and 2 have passed
-abbrev pub Begun : List ℕ → Call → Type 0
-Begun l start = ⊥
-Begun l (push t p) = SoundLedger l × InTime l t
-Begun l (decide t d out) = SoundLedger l × InTime l t
-Begun l (token t q) = SoundLedger l × InTime l t
-Begun l (resource t q) = SoundLedger l × InTime l t
-Begun l (sweep t) = SoundLedger l × InTime l t
-
 pub record Demand1 : Type 0 where
   -- "Each call, on every input, ends with an answer from the table in document 01": 0, or a number of the call's own list
   pub from-table : (l table : List ℕ) (c : Call) → (leaves l table c .number ≡ done) ⊎ In (leaves l table c .number) (numbers (kindOf c))
   -- "It checks for itself each ledger .. that it reads": every call but start, which ignores the old content ..
   pub checks-ledger : (l table : List ℕ) (c : Call) → kindOf c ≢ Start → (SoundLedger l → ⊥) → leaves l table c .number ≡ numberOf LedgerUnsound
-  -- .. "table ..": once 1 and 2 have passed; the other calls do not depend on a table
-  pub checks-table : (l table : List ℕ) (c : Call) → readsTable (kindOf c) ≡ true → Begun l c → (SoundTable table → ⊥)
+  -- .. "table": push and token, once 1 and 2 have passed ..
+  pub checks-table : (l table : List ℕ) (c : Call) → readsTable (kindOf c) ≡ true
+      → leaves l table c .number ≢ numberOf LedgerUnsound → leaves l table c .number ≢ numberOf TimeWrong → (SoundTable table → ⊥)
       → leaves l table c .number ≡ numberOf TableUnsound
+  -- .. and what the other calls leave does not depend on a table. Requests are checked by the rows of demand 2.
   pub reads-no-table : (l table other : List ℕ) (c : Call) → readsTable (kindOf c) ≡ false → leaves l table c ≡ leaves l other c
   -- "A refusal returns its number with zeros"
   pub zeros-beside : (l table : List ℕ) (c : Call) → leaves l table c .number ≢ done → AllZero (leaves l table c .beside)

@@ -31,7 +31,7 @@ After l (sweep t) a = AfterSweep l t a
 pub record Demand2 : Type 0 where
   -- "A call is accepted exactly when the FAPI 2.0 Security Profile, .. as condensed in document 01, allow it."
   pub accepted : (l table : List ℕ) (c : Call) → (leaves l table c .number ≡ done) ↔ Allowed l table c
-  -- "The answer .. [is] the one written there": a row's number "exactly when its turn comes and" its condition holds
+  -- and is refused with the number of a row "exactly when its turn comes and" its condition holds
   pub refused : (l table : List ℕ) (c : Call) (why : Refusal) → (leaves l table c .number ≡ numberOf why) ↔ Turn why (rows l table c)
   -- "The answer and the ledger afterwards are the ones written there."
   pub afterwards : (l table : List ℕ) (c : Call) → leaves l table c .number ≡ done → After l c (leaves l table c)
