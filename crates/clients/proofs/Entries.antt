@@ -1,4 +1,4 @@
--- Laws of the client records in table order, and of the loops over them. Assumes nothing.
+-- Laws of the client records in table order, and of the loops over them.
 use Prim.Native.Nat.{ℕ, suc, _+_, _-_, _*_, _<_, _≤_}
 use native.Mathlib.Omega.{arith}
 use mathlib.Core.Path.{_≡_, sym, ap, _∙_}

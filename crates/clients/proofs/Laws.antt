@@ -1,4 +1,4 @@
--- What the definitions of the client table say of its records, in both directions. Assumes nothing.
+-- What the definitions of the client table say of its records, in both directions.
 use Prim.Native.Nat.{ℕ, _*_, _<_, _≤_}
 use native.Mathlib.Omega.{arith}
 use mathlib.Core.Path.{_≡_, refl, sym, ap, _∙_}

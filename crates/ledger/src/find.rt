@@ -3,12 +3,11 @@ ghost use mathlib.Core.Path.{_≡_};
 ghost use Prim.Native.Nat.{_<_};
 ghost use Rattle.ledger.specs.Fields.{slots};
 ghost use Rattle.ledger.specs.Checks.{found, wanted, isFree, isWith, isReference, isCode, isToken};
-use super::field::Field;
+use super::record;
 use super::record::at;
 use super::record::slots;
-use super::record::state;
 use super::state::State;
-use octets::part::cut;
+use super::state::is_in;
 use octets::part::same;
 
 pub enum Found {
@@ -26,36 +25,36 @@ pub enum Kind {
 fn is_free(r: &[u8]) -> bool
     ensures { λ b. ⌜ b ≡ isFree (now (r .entry)) ⌝ }
 {
-    state(r) == State::Free.number()
+    is_in(r, State::Free)
 }
 
 // Whether the record has this value and this client id.
-fn is_with(r: &[u8], v: &[u8; 32], client: &[u8; 16]) -> bool
-    ensures { λ b. ⌜ b ≡ isWith (now (v .entry)) (now (client .entry)) (now (r .entry)) ⌝ }
+fn is_with(r: &[u8], v: &[u8; 32], id: &[u8; 16]) -> bool
+    ensures { λ b. ⌜ b ≡ isWith (now (v .entry)) (now (id .entry)) (now (r .entry)) ⌝ }
 {
-    if !same(cut(r, Field::VALUE, 32), v) {
+    if !same(record::value(r), v) {
         return false;
     }
-    same(cut(r, Field::CLIENT, 16), client)
+    same(record::client(r), id)
 }
 
-fn is_reference(r: &[u8], v: &[u8; 32], client: &[u8; 16]) -> bool
-    ensures { λ b. ⌜ b ≡ isReference (now (v .entry)) (now (client .entry)) (now (r .entry)) ⌝ }
+fn is_reference(r: &[u8], v: &[u8; 32], id: &[u8; 16]) -> bool
+    ensures { λ b. ⌜ b ≡ isReference (now (v .entry)) (now (id .entry)) (now (r .entry)) ⌝ }
 {
-    if state(r) != State::Pushed.number() {
+    if !is_in(r, State::Pushed) {
         return false;
     }
-    is_with(r, v, client)
+    is_with(r, v, id)
 }
 
-fn is_code(r: &[u8], v: &[u8; 32], client: &[u8; 16]) -> bool
-    ensures { λ b. ⌜ b ≡ isCode (now (v .entry)) (now (client .entry)) (now (r .entry)) ⌝ }
+fn is_code(r: &[u8], v: &[u8; 32], id: &[u8; 16]) -> bool
+    ensures { λ b. ⌜ b ≡ isCode (now (v .entry)) (now (id .entry)) (now (r .entry)) ⌝ }
 {
-    if state(r) == State::Consented.number() {
-        return is_with(r, v, client);
+    if is_in(r, State::Consented) {
+        return is_with(r, v, id);
     }
-    if state(r) == State::Redeemed.number() {
-        return is_with(r, v, client);
+    if is_in(r, State::Redeemed) {
+        return is_with(r, v, id);
     }
     false
 }
@@ -63,30 +62,30 @@ fn is_code(r: &[u8], v: &[u8; 32], client: &[u8; 16]) -> bool
 fn is_token(r: &[u8], v: &[u8; 32]) -> bool
     ensures { λ b. ⌜ b ≡ isToken (now (v .entry)) (now (r .entry)) ⌝ }
 {
-    if state(r) != State::Redeemed.number() {
+    if !is_in(r, State::Redeemed) {
         return false;
     }
-    same(cut(r, Field::TOKEN, 32), v)
+    same(record::token(r), v)
 }
 
-fn is_wanted(r: &[u8], kind: Kind, v: &[u8; 32], client: &[u8; 16]) -> bool
-    ensures { λ b. ⌜ b ≡ wanted kind (now (v .entry)) (now (client .entry)) (now (r .entry)) ⌝ }
+fn is_wanted(r: &[u8], kind: Kind, v: &[u8; 32], id: &[u8; 16]) -> bool
+    ensures { λ b. ⌜ b ≡ wanted kind (now (v .entry)) (now (id .entry)) (now (r .entry)) ⌝ }
 {
     match kind {
         Kind::Vacant => is_free(r),
-        Kind::Reference => is_reference(r, v, client),
-        Kind::Code => is_code(r, v, client),
+        Kind::Reference => is_reference(r, v, id),
+        Kind::Code => is_code(r, v, id),
         Kind::Token => is_token(r, v),
     }
 }
 
-fn find(l: &[u8], kind: Kind, v: &[u8; 32], client: &[u8; 16]) -> Found
-    ensures { λ r. ⌜ r ≡ found (wanted kind (now (v .entry)) (now (client .entry))) (now (l .entry)) ⌝ }
+fn find(l: &[u8], kind: Kind, v: &[u8; 32], id: &[u8; 16]) -> Found
+    ensures { λ r. ⌜ r ≡ found (wanted kind (now (v .entry)) (now (id .entry))) (now (l .entry)) ⌝ }
 {
     let n = slots(l);
     let mut k = 0;
     while k < n {
-        if is_wanted(at(l, k), kind, v, client) {
+        if is_wanted(at(l, k), kind, v, id) {
             return Found::At(k);
         }
         k += 1;
@@ -102,17 +101,17 @@ pub fn free(l: &[u8]) -> Found
 }
 
 // For check 10.
-pub fn reference(l: &[u8], v: &[u8; 32], client: &[u8; 16]) -> Found
-    ensures { λ r. ⌜ r ≡ found (isReference (now (v .entry)) (now (client .entry))) (now (l .entry)) ⌝ }
+pub fn reference(l: &[u8], v: &[u8; 32], id: &[u8; 16]) -> Found
+    ensures { λ r. ⌜ r ≡ found (isReference (now (v .entry)) (now (id .entry))) (now (l .entry)) ⌝ }
 {
-    find(l, Kind::Reference, v, client)
+    find(l, Kind::Reference, v, id)
 }
 
 // For checks 14 and 15.
-pub fn code(l: &[u8], v: &[u8; 32], client: &[u8; 16]) -> Found
-    ensures { λ r. ⌜ r ≡ found (isCode (now (v .entry)) (now (client .entry))) (now (l .entry)) ⌝ }
+pub fn code(l: &[u8], v: &[u8; 32], id: &[u8; 16]) -> Found
+    ensures { λ r. ⌜ r ≡ found (isCode (now (v .entry)) (now (id .entry))) (now (l .entry)) ⌝ }
 {
-    find(l, Kind::Code, v, client)
+    find(l, Kind::Code, v, id)
 }
 
 // For check 17.

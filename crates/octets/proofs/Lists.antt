@@ -1,4 +1,4 @@
--- Laws of the questions on a list: what a loop keeps, and what the answer says of the elements. Assumes nothing.
+-- Laws of the questions on a list: what a loop keeps, and what the answer says of the elements.
 use Prim.Native.Nat.{ℕ, zero, suc, _+_, _<_, _≤_}
 use native.Mathlib.Numerals.{add-one}
 use native.Mathlib.Omega.{arith}

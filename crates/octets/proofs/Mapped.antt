@@ -1,4 +1,4 @@
--- Questions on a mapped list are questions on the list. Assumes nothing.
+-- Questions on a mapped list are questions on the list.
 use Prim.Native.Nat.{ℕ, zero, suc, _<_}
 use native.Mathlib.Omega.{arith}
 use mathlib.Core.Path.{_≡_, refl, ap}

@@ -1,4 +1,4 @@
--- Laws of Bool tests, and of two numbers. Assumes nothing.
+-- Laws of Bool tests, and of two numbers.
 use Prim.Native.Nat.{ℕ, _≤_, _<_}
 use native.Mathlib.Decide.{decLt}
 use native.Mathlib.Omega.{arith}

@@ -1,4 +1,4 @@
--- Soundness is kept by each writer, under what its call has checked. Assumes nothing.
+-- Soundness is kept by each writer, under what its call has checked.
 use Prim.Native.Nat.{ℕ, zero, suc, _+_, _*_, _≤_, _<_, _^_}
 use native.Mathlib.Omega.{arith}
 use native.Mathlib.Nat.{le-refl}

@@ -1,4 +1,4 @@
--- What is read of a record after fields of it were written: each field written says what was put there, each other part what it said. Assumes nothing.
+-- What is read of a record after fields of it were written: each field written says what was put there, each other part what it said.
 use Prim.Native.Nat.{ℕ, _+_, _≤_, _<_}
 use native.Mathlib.Omega.{arith}
 use native.Mathlib.Decide.{decLt}

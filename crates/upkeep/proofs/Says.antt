@@ -1,4 +1,4 @@
--- What soundness and the searches say of every record, both ways. Assumes nothing.
+-- What soundness and the searches say of every record, both ways.
 use Prim.Native.Nat.{ℕ, _+_, _*_, _-_, _%_, _≤_, _<_}
 use native.Mathlib.Omega.{arith}
 use native.Mathlib.Decide.{decLt}

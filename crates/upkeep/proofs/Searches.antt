@@ -1,4 +1,4 @@
--- What a search of the records says: the first such record and none before it; in a sound ledger, the only one. Assumes nothing.
+-- What a search of the records says: the first such record and none before it; in a sound ledger, the only one.
 use Prim.Native.Nat.{ℕ, zero, suc, _<_}
 use native.Mathlib.Omega.{arith}
 use native.Mathlib.Decide.{ℕ-discrete, decLt}

@@ -1,4 +1,4 @@
--- Laws of the view by named fields: what each writer makes of it, and that on sound ledgers it says all. Assumes nothing.
+-- Laws of the view by named fields: what each writer makes of it, and that on sound ledgers it says all.
 use Prim.Native.Nat.{ℕ, zero, suc, _+_, _*_, _-_, _≤_, _<_, _^_}
 use native.Mathlib.Omega.{arith}
 use mathlib.Core.Path.{_≡_, refl, sym, ap, ap₂, _∙_}

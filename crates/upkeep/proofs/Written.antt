@@ -1,4 +1,4 @@
--- What a record says after a push, a consent or a token: each writer is one of slots. Assumes nothing.
+-- What a record says after a push, a consent or a token: each writer is one of slots.
 use Prim.Native.Nat.{ℕ, _≤_, _<_, _^_}
 use native.Mathlib.Omega.{arith}
 use mathlib.Core.Path.{_≡_, refl, sym, ap, ap₂, _∙_}

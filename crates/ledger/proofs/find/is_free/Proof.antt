@@ -5,7 +5,7 @@ use Rattle.ledger.proofs.find.is_free.Tie as tie
 
 returns : tie.Need-returns
 unfolding isFree
-returns c = cc
+returns c = c .is-in .ensures
 
 pub is-free-spec : {M : Type 1} → statement M
-is-free-spec = tie.close (tie.spec (search needs) (search needs) returns)
+is-free-spec = tie.close (tie.spec (search needs) returns)

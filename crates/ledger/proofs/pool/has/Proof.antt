@@ -1,6 +1,6 @@
 use Prim.Native.Nat.{_-_, _≤_}
 use Rattle.ledger.proofs.Loops.{some-rec-hit, some-rec-miss, some-rec-end}
-use Rattle.ledger.proofs.fresh.in_pool.Statement.{statement}
+use Rattle.ledger.proofs.pool.has.Statement.{statement}
 use Rattle.ledger.specs.Fields.{slots, records}
 use Rattle.ledger.specs.Sound.{holds}
 use Rattle.octets.specs.Lists.{some}
@@ -8,7 +8,7 @@ use borrow.Author.Needs.{needs}
 use lib.ListN.{drop}
 use mathlib.Core.Path.{_≡_, refl, sym, _∙_}
 use native.Mathlib.Omega.{arith}
-use Rattle.ledger.proofs.fresh.in_pool.Tie as tie
+use Rattle.ledger.proofs.pool.has.Tie as tie
 
 abbrev Inv-loop : tie.InvT-loop
 Inv-loop l v n k₀ k = (n ≡ slots l) × (k ≤ n) × (some (holds v) (records l) ≡ some (holds v) (drop k (records l)))
@@ -28,8 +28,8 @@ loop-again c = let p = c .before .before .before .before .loop in (p .inv .0, se
 returns-2 : tie.Need-returns-2 Inv-loop μ-loop
 returns-2 c = let p = c .before .loop in sym (p .inv .2 ∙ some-rec-end _ _ (p .k) (omega arith))
 
-pub in-pool-spec : {M : Type 1} → statement M
-in-pool-spec =
+pub has-spec : {M : Type 1} → statement M
+has-spec =
     tie.close
     (tie.spec
     Inv-loop
