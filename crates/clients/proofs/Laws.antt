@@ -2,7 +2,7 @@
 use Prim.Native.Nat.{ℕ, _*_, _<_, _≤_}
 use native.Mathlib.Omega.{arith}
 use mathlib.Core.Path.{_≡_, refl, sym, ap, _∙_}
-use mathlib.Core.Logic.{_≢_, _⊎_, inl, inr}
+use mathlib.Core.Logic.{_≢_, _↔_, _⊎_, inl, inr}
 use mathlib.Core.Bool.{Bool, true, false}
 use mathlib.Core.List.{List, []}
 use lib.Dec.{eqb, leb, ltb}
@@ -16,6 +16,7 @@ use Rattle.octets.proofs.Tests.{both, both-true, false-of}
 use Rattle.clients.specs.Limits.{leastClients, mostClients, clientSize}
 use Rattle.clients.specs.Fields.{clients, client, entries, id, authKey, rest}
 use Rattle.clients.specs.Sound.{lengthRight, idGiven, idsGiven, keyGiven, keysGiven, sameId, idsDistinct, restZero, restsZero, sound, soundIf, checkTable}
+use Rattle.clients.specs.Plain.{SoundTable}
 use Rattle.clients.specs.Known.{hasId, hasKey, placeOf, atIf, isKnown, known}
 use Rattle.clients.specs.declared.table.Table.the-variants.{Sound, Unsound}
 use Rattle.clients.specs.declared.known.Known.the-variants.{At, Unknown}
@@ -23,16 +24,6 @@ use Rattle.clients.proofs.Entries.{length-entries, entry-at, field-leng
 use Rattle.clients.proofs.Checks.{id-nowhere, id-somewhere, no-such-id, key-differs, key-agrees}
 
 -- ---- check 3
-
--- what a sound table is: each rule of document 01, of all its records
-pub record IsSound (t : List ℕ) : Type 0 where
-  pub whole : length t ≡ clientSize * clients t
-  pub least : leastClients ≤ clients t
-  pub most : clients t ≤ mostClients
-  pub ids : (k : ℕ) → k < clients t → id (client t k) ≢ blank 16
-  pub keys : (k : ℕ) → k < clients t → authKey (client t k) ≢ blank 32
-  pub distinct : (i j : ℕ) → i < clients t → j < clients t → id (client t i) ≡ id (client t j) → i ≡ j
-  pub rests : (k : ℕ) → k < clients t → rest (client t k) ≡ blank 12
 
 -- any two places have different ids
 pub distinct-of : (t : List ℕ) → ((i j : ℕ) → i < clients t → j < clients t → id (client t i) ≡ id (client t j) → i ≡ j) → idsDistinct t ≡ true
@@ -58,7 +49,7 @@ distinct-is t e i j a b s = by (ltb i j) refl (ltb j i) refl
     by false x false y = omega (arith, ltb-false i j x, ltb-false j i y)
 
 module _ (t : List ℕ) where
-  pub of-sound : sound t ≡ true → IsSound t
+  pub of-sound : sound t ≡ true → SoundTable t
   unfolding sound lengthRight idsGiven idGiven keysGiven keyGiven restsZero restZero
   of-sound e =
       let r = both (lengthRight t) _ e in
@@ -77,7 +68,7 @@ module _ (t : List ℕ) where
         rests = λ j h. zeros-eq _ (at-each t restZero (d .1) j h) ∙ ap blank (field-length t j h 52 12 (omega arith));
       }
 
-  pub to-sound : IsSound t → sound t ≡ true
+  pub to-sound : SoundTable t → sound t ≡ true
   unfolding sound lengthRight idsGiven idGiven keysGiven keyGiven restsZero restZero
   to-sound s =
       let w = eq-eqb (length t) (clientSize * clients t) (s .whole) in
@@ -88,6 +79,9 @@ module _ (t : List ℕ) where
       let d = distinct-of t (s .distinct) in
       let r = of-each t restZero (λ k h. ap zeros (s .rests k h) ∙ zeros-blank 12) in
       both-true _ _ (both-true _ _ w (both-true _ _ l m)) (both-true _ _ i (both-true _ _ k (both-true _ _ d r)))
+
+  pub table-says : (sound t ≡ true) ↔ SoundTable t
+  table-says = (of-sound, to-sound)
 
   -- what check 3 answers
   pub of-check : checkTable t ≡ Sound → sound t ≡ true

@@ -3,3 +3,4 @@ pub mod Lists
 pub mod Numbers
 pub mod Parts
 pub mod Spans
+pub mod Plain

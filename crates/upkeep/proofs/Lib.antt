@@ -2,6 +2,7 @@
 pub mod Puts
 pub mod Written
 pub mod Says
+pub mod Plain
 pub mod Searches
 pub mod Heads
 pub mod Replaced
