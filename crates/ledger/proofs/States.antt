@@ -1,7 +1,7 @@
 -- The state that a number says.
 use Prim.Native.Nat.{ℕ, zero, suc, _<_}
 use native.Mathlib.Omega.{arith}
-use mathlib.Core.Path.{_≡_, refl, ap}
+use mathlib.Core.Path.{_≡_, refl}
 use Rattle.ledger.specs.Fields.{stateNumber, stated}
 use Rattle.ledger.specs.declared.state.State.{State}
 use Rattle.ledger.specs.declared.state.State.the-variants.{Free, Pushed, Consented, Redeemed}

@@ -1,11 +1,6 @@
-// The pool of values and tokens. Check 7: whether a value may enter it.
+// The pool of values and tokens: whether a record holds a value, and what check 7 answers, whether a value may enter.
 ghost use mathlib.Core.Path.{_≡_};
-ghost use Rattle.octets.specs.Lists.{some};
-ghost use Rattle.ledger.specs.Fields.{records};
 ghost use Rattle.ledger.specs.Sound.{holds};
-ghost use Rattle.ledger.specs.Checks.{checkValue};
-use super::record::at;
-use super::record::slots;
 use super::record::token;
 use super::record::value;
 use octets::part::is_zero;
@@ -27,30 +22,4 @@ pub fn holds(v: &[u8], r: &[u8]) -> bool
         return true;
     }
     same(v, token(r))
-}
-
-fn has(l: &[u8], v: &[u8]) -> bool
-    ensures { λ b. ⌜ b ≡ some (holds (now (v .entry))) (records (now (l .entry))) ⌝ }
-{
-    let n = slots(l);
-    let mut k = 0;
-    while k < n {
-        if holds(v, at(l, k)) {
-            return true;
-        }
-        k += 1;
-    }
-    false
-}
-
-pub fn check(l: &[u8], v: &[u8; 32]) -> Value
-    ensures { λ r. ⌜ r ≡ checkValue (now (l .entry)) (now (v .entry)) ⌝ }
-{
-    if is_zero(v) {
-        return Value::Taken;
-    }
-    if has(l, v) {
-        return Value::Taken;
-    }
-    Value::New
 }

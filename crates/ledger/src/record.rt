@@ -1,7 +1,7 @@
 // A record of the ledger, and its fields, for any slice.
 ghost use mathlib.Core.Path.{_≡_};
 ghost use Prim.Native.Nat.{_%_, _^_};
-ghost use Rattle.ledger.specs.Fields.{address, rec, slots, redirectLength, scope, grant, expiry, holder, client, challenge, value, token, boundKey};
+ghost use Rattle.ledger.specs.Fields.{address, rec, slots, redirectLength, scope, grant, expiry, holder, client, challenge, value, token, boundKey, redirectField};
 ghost use Rattle.ledger.specs.Checks.{checkLife};
 use super::field::Field;
 use super::limit::Ledger;
@@ -99,6 +99,13 @@ pub fn bound_key(r: &[u8]) -> &[u8]
     ensures { λ s. ⌜ now s ≡ boundKey (now (r .entry)) ⌝ }
 {
     cut(r, Field::KEY, Field::KEY_WIDTH)
+}
+
+// The redirect with the zeros behind it.
+pub fn redirect_field(r: &[u8]) -> &[u8]
+    ensures { λ s. ⌜ now s ≡ redirectField (now (r .entry)) ⌝ }
+{
+    cut(r, Field::REDIRECT, Field::REDIRECT_WIDTH)
 }
 
 pub enum Life {

@@ -3,7 +3,7 @@ use Rattle.ledger.specs.Sound.{sameGrant}
 use borrow.Author.Needs.{needs}
 use borrow.Author.Tests.{eq-eqb, ne-eqb}
 use mathlib.Core.Bool.{and-false, and-true}
-use mathlib.Core.Path.{sym, _∙_}
+use mathlib.Core.Path.{sym}
 use Rattle.soundness.proofs.pool.is_same_grant.Tie as tie
 
 returns : tie.Need-returns
