@@ -5,18 +5,18 @@ use mathlib.Core.Logic.{_≢_}
 use mathlib.Core.List.{List}
 use lib.ListN.{length}
 use Rattle.octets.specs.Parts.{blank}
-use Rattle.clients.specs.Limits.{leastClients, mostClients, clientSize}
-use Rattle.clients.specs.Fields.{clients, client, id, authKey, rest}
+use Rattle.clients.specs.Limits.{clientsLeast, clientsMost, clientSize}
+use Rattle.clients.specs.Fields.{clients, client, idSpan, id, authKeySpan, authKey, restSpan, rest}
 
 -- "Sound: length right, no id or key all zeros, ids distinct, last twelve bytes zero."
 pub record SoundTable (t : List ℕ) : Type 0 where
   pub whole : length t ≡ clientSize * clients t
-  pub least : leastClients ≤ clients t
-  pub most : clients t ≤ mostClients
-  pub ids : (k : ℕ) → k < clients t → id (client t k) ≢ blank 16
-  pub keys : (k : ℕ) → k < clients t → authKey (client t k) ≢ blank 32
+  pub least : clientsLeast ≤ clients t
+  pub most : clients t ≤ clientsMost
+  pub ids : (k : ℕ) → k < clients t → id (client t k) ≢ blank (idSpan .width)
+  pub keys : (k : ℕ) → k < clients t → authKey (client t k) ≢ blank (authKeySpan .width)
   pub distinct : (i j : ℕ) → i < clients t → j < clients t → id (client t i) ≡ id (client t j) → i ≡ j
-  pub rests : (k : ℕ) → k < clients t → rest (client t k) ≡ blank 12
+  pub rests : (k : ℕ) → k < clients t → rest (client t k) ≡ blank (restSpan .width)
 
 -- record k of the table has this id and this authentication key
 pub record KnownAt (table who key : List ℕ) (k : ℕ) : Type 0 where

@@ -1,4 +1,4 @@
--- Lists of zeros and lists of bytes: their parts are such, and so is what is put together of such; lists that agree part by part. Assumes nothing.
+-- Lists of zeros and lists of bytes: their parts are such, and so is what is put together of such; lists that agree part by part.
 use Prim.Native.Nat.{ℕ, zero, suc, _+_, _*_, _≤_, _<_}
 use native.Mathlib.Omega.{arith}
 use native.Mathlib.Decide.{decLt}

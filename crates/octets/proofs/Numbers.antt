@@ -1,4 +1,4 @@
--- Laws of big-endian numbers, over the width. Assumes nothing.
+-- Laws of big-endian numbers, over the width.
 use mathlib.Core.Path.{_≡_, refl, sym, ap, _∙_}
 use mathlib.Core.List.{List, [], _∷_, _++_}
 use Prim.Native.Nat.{ℕ, zero, suc, _+_, _*_, _/_, _%_, _≤_, _<_, _^_}

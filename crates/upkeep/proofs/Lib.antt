@@ -1,4 +1,5 @@
 -- What the ledger says and what its writers keep.
+pub mod Slots
 pub mod Puts
 pub mod Written
 pub mod Says
@@ -8,4 +9,3 @@ pub mod Heads
 pub mod Replaced
 pub mod Kept
 pub mod Ranges
-pub mod Views

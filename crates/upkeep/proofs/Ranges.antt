@@ -1,4 +1,4 @@
--- Every byte stays below 256, whatever is written. Assumes nothing.
+-- Every byte stays below 256, whatever is written.
 use Prim.Native.Nat.{ℕ, zero, suc, _+_, _*_, _≤_, _<_}
 use native.Mathlib.Omega.{arith}
 use native.Mathlib.Decide.{decLt}

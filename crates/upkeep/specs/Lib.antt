@@ -1,3 +1,2 @@
--- The sound ledger in plain words, and a view of the ledger by named fields.
+-- The sound ledger in plain words.
 pub mod Sound
-pub mod View
