@@ -1,4 +1,4 @@
--- What each accepted call does to the records, the next number and the clock. Assumes nothing.
+-- What each accepted call does to the records, the next number and the clock.
 use Prim.Native.Nat.{ℕ, zero, suc, _+_, _≤_, _<_, _^_}
 use native.Mathlib.Omega.{arith}
 use mathlib.Core.Path.{_≡_, refl, sym, ap, _∙_}

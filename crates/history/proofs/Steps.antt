@@ -1,4 +1,4 @@
--- A step by cases: it is refused and changes nothing, or all its checks pass. Assumes nothing.
+-- A step by cases: it is refused, by a row whose turn has come, or all its checks pass.
 use Prim.Native.Nat.{ℕ}
 use mathlib.Core.Path.{_≡_, refl, ap}
 use mathlib.Core.Logic.{_≢_, _⊎_, ⊎-elim}
@@ -64,21 +64,21 @@ left l (sweep t) = withClock t (sweptLedger t l)
 abbrev pub acceptance : List ℕ → Call → Step
 acceptance l c = made c l (reply l c) (left l c)
 
--- the one case split: the rest is about a refused step, or about an accepted one whose checks all passed
+-- the one case split: a step refused by the row whose turn has come, or an accepted one whose checks all passed
 pub step-cases : (P : Step → Type 0) (l : List ℕ) (c : Call)
-    → ((why : Refusal) → P (refusal l c why))
+    → ((why : Refusal) → Turn why (checksOf l c) → P (refusal l c why))
     → (Passed (checksOf l c) → P (acceptance l c))
     → P (step l c)
 unfolding step
 step-cases P l (push t table p) r a =
-    push-cases l t table p (λ (o : Outcome). P (made (push t table p) l (answered (o .answer)) (o .ledger))) (λ why u. r why) a
+    push-cases l t table p (λ (o : Outcome). P (made (push t table p) l (answered (o .answer)) (o .ledger))) r a
 step-cases P l (decide t d out) r a =
-    decide-cases l t d out (λ (o : Decision). P (made (decide t d out) l (decided (o .answer) (o .output)) (o .ledger))) (λ why u. r why) a
+    decide-cases l t d out (λ (o : Decision). P (made (decide t d out) l (decided (o .answer) (o .output)) (o .ledger))) r a
 step-cases P l (token t table q) r a =
-    token-cases l t table q (λ (o : Outcome). P (made (token t table q) l (answered (o .answer)) (o .ledger))) (λ why u. r why) a
+    token-cases l t table q (λ (o : Outcome). P (made (token t table q) l (answered (o .answer)) (o .ledger))) r a
 step-cases P l (resource t q) r a =
-    resource-cases l t q (λ (o : Outcome). P (made (resource t q) l (answered (o .answer)) (o .ledger))) (λ why u. r why) a
-step-cases P l (sweep t) r a = sweep-cases l t (λ (o : Sweeping). P (made (sweep t) l (swept (o .answer)) (o .ledger))) (λ why u. r why) a
+    resource-cases l t q (λ (o : Outcome). P (made (resource t q) l (answered (o .answer)) (o .ledger))) r a
+step-cases P l (sweep t) r a = sweep-cases l t (λ (o : Sweeping). P (made (sweep t) l (swept (o .answer)) (o .ledger))) r a
 
 -- no row of the table has number 0
 pub refused-not : (why : Refusal) → eqb (numberOf why) 0 ≡ false
