@@ -78,5 +78,5 @@ pub record Begun (l : List ℕ) : Type 0 where
 
 -- "Start a ledger once": an accepted start, on any buffer, leaves a ledger that runs begin at, and on every buffer with such room start is accepted
 pub record RunsBegin : Type 0 where
-  pub begun : (l : List ℕ) → start l .number ≡ done → Begun l
-  pub begins : (n : ℕ) (l : List ℕ) → RoomFor n l → (start l .number ≡ done) × (start l .ledger ≡ started n)
+  pub begun : (l : List ℕ) → start l .answer ≡ done → Begun l
+  pub begins : (n : ℕ) (l : List ℕ) → RoomFor n l → (start l .answer ≡ done) × (start l .ledger ≡ started n)
