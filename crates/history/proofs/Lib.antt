@@ -9,3 +9,5 @@ pub mod Links
 pub mod Invariant
 pub mod Readings
 pub mod Demand3
+pub mod Begins
+pub mod Example

@@ -4,3 +4,4 @@ pub mod Events
 pub mod Counts
 pub mod Histories
 pub mod Demand3
+pub mod Example
