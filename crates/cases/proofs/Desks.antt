@@ -1,4 +1,4 @@
--- Wrong desks are caught. Assumes nothing.
+-- Wrong desks are caught.
 use Prim.Native.Nat.{ℕ, _≤_}
 use native.Mathlib.Omega.{arith}
 use mathlib.Core.Path.{_≡_, refl, sym, ap, _∙_}
@@ -9,8 +9,6 @@ use lib.Dec.{lit≤, eqb}
 use borrow.Author.Tests.{eqb-true, eqb-false}
 use Rattle.octets.proofs.Parts.{differ-is}
 use lib.ListN.{length}
-use Rattle.ledger.specs.Fields.{slots}
-use Rattle.ledger.specs.Write.{pushed}
 use Rattle.desk.specs.Checks.{first}
 use Rattle.desk.specs.Requests.{PushRequest}
 use Rattle.desk.specs.Push.{pushAt}
@@ -28,7 +26,9 @@ use Rattle.conduct.proofs.Facts.{push-facts}
 use Rattle.cases.proofs.Times.{push-wrote}
 use Rattle.cases.specs.Table.{shortest}
 use Rattle.cases.specs.Desks.{Seen, Desk, Allowed, Kind, pushes, decides, sweeps, kindOf, before, Caught, Refuses, Answers, Idles, outputIn, Withholds, Feigns, countsIn, InventsCounts, InventsNumbers, ShutOut}
-use Rattle.cases.proofs.Inputs.{table, text43, asking, room, code, allowing, typed-push}
+use Rattle.history.specs.Example.{table, text43, room}
+use Rattle.history.proofs.Example.{typed-push}
+use Rattle.cases.proofs.Inputs.{asking, code, allowing}
 use Rattle.cases.proofs.Tries.{soon, one-before, runOf, callAt, ledgerOf, sweptFirst, otherFirst, computed, later, of-kind, typed-call, typed-run, typed-other}
 
 -- ---- catching

@@ -1,4 +1,4 @@
--- What is easy to get wrong, shown right. Assumes nothing.
+-- What is easy to get wrong, shown right.
 use Prim.Native.Nat.{ℕ, _+_, _<_}
 use mathlib.Core.Path.{_≡_, refl, sym, ap, _∙_}
 use mathlib.Core.Logic.{_≢_, _⊎_, inr}

@@ -1,4 +1,4 @@
--- Start by the length of its buffer, byte by byte, and the sweep of a fresh ledger: P1 to P3 and P8. Assumes nothing.
+-- Start by the length of its buffer, byte by byte, and the sweep of a fresh ledger: P1 to P3 and P8.
 use Prim.Native.Nat.{ℕ, _+_, _*_, _-_, _%_, _≤_, _<_}
 use native.Mathlib.Omega.{arith}
 use native.Mathlib.Decide.{decLt}

@@ -1,4 +1,4 @@
--- The last good second of a reference, a code and a token, and the one after it: P4 to P6. Assumes nothing.
+-- The last good second of a reference, a code and a token, and the one after it: P4 to P6.
 use Prim.Native.Nat.{ℕ, _+_, _<_}
 use native.Mathlib.Omega.{arith}
 use mathlib.Core.Path.{_≡_, refl, ap, _∙_}
