@@ -20,30 +20,12 @@ use Rattle.desk.specs.Token.{codeAt, tokenAt}
 use Rattle.desk.specs.declared.answer.Refusal.{Refusal}
 use Rattle.history.specs.Runs.{Call, push, decide, token, resource, sweep, Typed, Step, step}
 use Rattle.history.specs.Events.{EventKind, Consent, Token, Drop, SecondUse, Event, ofRecord, dropped, eventsOf, is}
-use Rattle.history.specs.Counts.{Whose, counted, consents, tokens, drops, waits, waiting}
+use Rattle.history.specs.Counts.{Whose, such, counted, consents, tokens, drops, waits, waiting}
 use Rattle.conduct.proofs.Turns.{Passed}
 use Rattle.history.proofs.Steps.{checksOf, refusal, acceptance, left, step-cases, decide-branch}
 use Rattle.history.proofs.Events.{count-none, count-provided, dropped-none, standing, refused-none, consent-events, decline-events}
 use Rattle.conduct.proofs.Facts.{push-facts, decide-facts, token-facts, resource-facts, sweep-facts}
-use Rattle.history.proofs.Effects.{
-  Wrote,
-  Pushes,
-  pushPlace,
-  pushOne,
-  pushes,
-  Consents,
-  consentOne,
-  consents as consented,
-  Declines,
-  declines,
-  Redeems,
-  tokenOne,
-  redeems,
-  Ticks,
-  ticks,
-  Sweeps,
-  sweeps,
-}
+use Rattle.history.proofs.Effects.{Wrote, pushPlace, pushOne, pushes, consentOne, consents as consented, declines, tokenOne, redeems, ticks, sweeps}
 use Rattle.history.proofs.Runs.{Good}
 
 -- one record replaced
@@ -68,18 +50,19 @@ module _ (whose : Whose) where
       go : (b : Bool) → (used r && expired t r) ≡ b
           → count (waits whose) rs ≡ drops whose (dropped c rs (map (sweptRecord t) rs)) + count (waits whose) (map (sweptRecord t) rs)
           → count (waits whose) (r ∷ rs) ≡ drops whose (dropped c (r ∷ rs) (map (sweptRecord t) (r ∷ rs))) + count (waits whose) (map (sweptRecord t) (r ∷ rs))
-      go true p ih = rw (p, free-state, and-true) (omega (arith, ih, count-provided (λ (e : Event). is Drop e && whose (e .client) (e .holder)) (inState Consented r) (ofRecord Drop r c) (dropped c rs (map (sweptRecord t) rs))))
+      go true p ih = rw (p, free-state, and-true) (omega (arith, ih, count-provided (such whose Drop) (inState Consented r) (ofRecord Drop r c) (dropped c rs (map (sweptRecord t) rs))))
       go false p ih = rw (p, standing r) (omega (arith, ih))
 
   abbrev Even : List ℕ → Step → Type 0
   Even l s = consents whose (eventsOf s) + waiting whose l ≡ tokens whose (eventsOf s) + drops whose (eventsOf s) + waiting whose (s .after)
 
-  -- no event of a refused step is counted
+  -- no event of a refused step is counted, and of a sweep's none but the drops
   uncounted : (k : EventKind) (l : List ℕ) (c : Call) (why : Refusal) → ((r : List ℕ) → is k (ofRecord SecondUse r c) ≡ false)
       → counted whose k (eventsOf (refusal l c why)) ≡ 0
-  uncounted k l c why h =
-      count-none (λ (e : Event). is k e && whose (e .client) (e .holder)) (eventsOf (refusal l c why))
-      (refused-none (λ (e : Event). is k e && whose (e .client) (e .holder)) l c why (λ r. rw (h r)))
+  uncounted k l c why h = count-none (such whose k) (eventsOf (refusal l c why)) (refused-none (such whose k) l c why (λ r. rw (h r)))
+
+  undropped : (k : EventKind) (c : Call) (rs ss : List (List ℕ)) → ((r : List ℕ) → is k (ofRecord Drop r c) ≡ false) → counted whose k (dropped c rs ss) ≡ 0
+  undropped k c rs ss h = count-none (such whose k) (dropped c rs ss) (dropped-none (such whose k) c (λ r. rw (h r)) rs ss)
 
   even-refused : (l : List ℕ) (c : Call) (why : Refusal) → Even l (refusal l c why)
   even-refused l c why = omega (arith, uncounted Consent l c why (λ r. refl), uncounted Token l c why (λ r. refl), uncounted Drop l c why (λ r. refl))
@@ -143,14 +126,13 @@ module _ (whose : Whose) where
       omega (arith, ap (count (waits whose)) (ticks l t (f .ledger-sound) (f .in-time) .records-are))
   even-done l (sweep t) o y ok =
       let f = sweep-facts l t ok in
+      let ss = map (sweptRecord t) (records l) in
       rw (sweeps l t (f .ledger-sound) (f .in-time) .records-are)
       (omega (
         arith,
         dropped-swept (sweep t) t (records l),
-        count-none (λ (e : Event). is Consent e && whose (e .client) (e .holder)) (dropped (sweep t) (records l) (map (sweptRecord t) (records l)))
-            (dropped-none (λ (e : Event). is Consent e && whose (e .client) (e .holder)) (sweep t) (λ r. refl) (records l) (map (sweptRecord t) (records l))),
-        count-none (λ (e : Event). is Token e && whose (e .client) (e .holder)) (dropped (sweep t) (records l) (map (sweptRecord t) (records l)))
-            (dropped-none (λ (e : Event). is Token e && whose (e .client) (e .holder)) (sweep t) (λ r. refl) (records l) (map (sweptRecord t) (records l))),
+        undropped Consent (sweep t) (records l) ss (λ r. refl),
+        undropped Token (sweep t) (records l) ss (λ r. refl),
       ))
 
   pub even : (l : List ℕ) (c : Call) → Octets l → Typed c → Even l (step l c)
@@ -161,7 +143,7 @@ module _ (whose : Whose) where
   Balanced l es = consents whose es ≡ tokens whose es + drops whose es + waiting whose l
 
   abbrev more : (k : EventKind) (es fs : List Event) → counted whose k (es ++ fs) ≡ counted whose k es + counted whose k fs
-  more k es fs = count-append (λ (e : Event). is k e && whose (e .client) (e .holder)) es fs
+  more k es fs = count-append (such whose k) es fs
 
   pub balanced-step : (l : List ℕ) (es : List Event) (c : Call) → Good l → Typed c → Balanced l es → Balanced (step l c .after) (es ++ eventsOf (step l c))
   balanced-step l es c g y x =

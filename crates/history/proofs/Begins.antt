@@ -1,10 +1,10 @@
 -- The call start leaves the ledgers that runs begin at.
 use Prim.Native.Nat.{ℕ, _+_, _*_, _-_, _/_, _%_}
 use native.Mathlib.Omega.{arith}
-use mathlib.Core.Path.{_≡_, refl, sym, ap, _∙_}
-use mathlib.Core.Bool.{Bool, true, false, _&&_, cond}
+use mathlib.Core.Path.{_≡_, refl, ap, _∙_}
+use mathlib.Core.Bool.{Bool, true, false, cond}
 use mathlib.Core.List.{List}
-use lib.Dec.{eqb, leb}
+use lib.Dec.{leb}
 use lib.ListN.{length}
 use borrow.Author.Tests.{leb-true, le-leb, eqb-true, eq-eqb}
 use Rattle.octets.proofs.Tests.{both, both-true}
@@ -15,8 +15,7 @@ use Rattle.desk.specs.Outcome.{Outcome, left}
 use Rattle.desk.specs.Start.{fresh, start}
 use Rattle.desk.specs.declared.answer.Refusal.the-variants.{LedgerUnsound}
 use Rattle.conduct.proofs.Turns.{number-refused}
-use Rattle.history.specs.Runs.{started}
-use Rattle.history.specs.Demand3.{RoomFor, Begun, RunsBegin}
+use Rattle.history.specs.Demand3.{RoomFor, RunsBegin}
 
 -- the records that a buffer has room for
 abbrev slotsIn : List ℕ → ℕ

@@ -1,11 +1,11 @@
 -- Demand 3: what every step keeps, from the start on.
-use Prim.Native.Nat.{ℕ, suc, _+_, _≤_}
+use Prim.Native.Nat.{ℕ, suc, _≤_}
 use native.Mathlib.Omega.{arith}
 use mathlib.Core.Path.{_≡_, refl, sym, ap, _∙_}
 use mathlib.Core.Bool.{Bool, true, false}
 use mathlib.Core.List.{List, [], _∷_}
-use lib.ListN.{length, getD}
-use Rattle.octets.specs.Lists.{bit, count, some, tabulate}
+use lib.ListN.{getD}
+use Rattle.octets.specs.Lists.{bit, count, some}
 use Rattle.ledger.specs.Fields.{records}
 use Rattle.ledger.specs.Sound.{sound}
 use Rattle.desk.specs.Requests.{PushRequest, DecideRequest, TokenRequest}

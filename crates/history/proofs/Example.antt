@@ -30,14 +30,13 @@ use Rattle.ledger.specs.Sound.{sized, numbersSound, bytesSound, recordSound, sa
 use Rattle.ledger.specs.Sweep.{sweptRecord, sweptTo, swept, due, freedOf, freed}
 use Rattle.ledger.specs.Write.{pushed, consented, redeemed, free}
 use Rattle.desk.specs.Checks.{first, scopeFits}
-use Rattle.desk.specs.Requests.{DecideRequest}
 use Rattle.desk.specs.Start.{fresh}
 use Rattle.desk.specs.Push.{pushChecks, pushRecord, pushAt, push as doPush}
 use Rattle.desk.specs.Decide.{decideChecks, consentRecord, consentAt, declineAt, decideAt, decide as doDecide}
 use Rattle.desk.specs.Token.{tokenChecks, tokenRecord, tokenAt, token as doToken}
 use Rattle.desk.specs.Resource.{resourceChecks, look, resource as doResource}
 use Rattle.desk.specs.Sweep.{sweepChecks, sweep as doSweep}
-use Rattle.history.specs.Runs.{push, decide, token, resource, Bytes, Array, TypedPush, TypedDecide, TypedToken, TypedResource, step}
+use Rattle.history.specs.Runs.{push, decide, token, Bytes, Array, TypedPush, TypedDecide, TypedToken, TypedResource, step}
 use Rattle.history.specs.Events.{Push, Consent, Token, SecondUse, event, listed}
 use Rattle.history.specs.Example.{program, programKey, table, secret, text43, target, room, asks, allows, declines, redeems, reads, Example}
 

@@ -1,16 +1,16 @@
 -- What stands behind a granted reading, and that it stays.
-use Prim.Native.Nat.{ℕ, _+_, _<_, _≤_}
+use Prim.Native.Nat.{ℕ, _<_, _≤_}
 use native.Mathlib.Omega.{arith}
 use native.Mathlib.Decide.{ℕ-discrete}
 use mathlib.Core.Path.{_≡_, refl, sym, ap, _∙_}
-use mathlib.Core.Logic.{_≢_, _⊎_, inl, inr, ⊎-elim}
+use mathlib.Core.Logic.{inl, inr, ⊎-elim}
 use mathlib.Core.Bool.{Bool, true, false, not, cond, _&&_, _||_, false≢true, or-true, and-false}
 use mathlib.Core.List.{List, [], _∷_, _++_, append-nil}
 use lib.Dec.{eqb}
 use lib.ListN.{length, length-append}
 use Rattle.octets.specs.Lists.{some, place}
 use Rattle.octets.specs.Parts.{zeros, same}
-use Rattle.octets.proofs.Tests.{both, and-l, false-of}
+use Rattle.octets.proofs.Tests.{both, false-of}
 use Rattle.octets.proofs.Parts.{same-eq, same-refl}
 use Rattle.ledger.specs.Fields.{rec, slots, records, used, grant, client, value, token as tokenField}
 use Rattle.upkeep.proofs.Says.{neither, of-sound}

@@ -21,8 +21,11 @@ anyone id who = true
 
 module _ (whose : Whose) where
   -- the events of a kind
+  abbrev pub such : EventKind → Event → Bool
+  such k e = is k e && whose (e .client) (e .holder)
+
   abbrev pub counted : EventKind → List Event → ℕ
-  counted k es = count (λ (e : Event). is k e && whose (e .client) (e .holder)) es
+  counted k es = count (such k) es
 
   -- "consents accepted", "tokens issued", "codes dropped by sweeps"
   abbrev pub consents : List Event → ℕ

@@ -1,7 +1,7 @@
 -- What happened in a step: one map from the whole step, its call, its answer and the ledgers before and after, to a list of events.
 -- Counts, numbers and histories are read off these events and off nothing else.
 use Prim.Native.Nat.{ℕ}
-use mathlib.Core.Bool.{Bool, true, false, _&&_, cond}
+use mathlib.Core.Bool.{Bool, _&&_, cond}
 use mathlib.Core.List.{List, [], _∷_, _++_}
 use lib.Dec.{eqb}
 use Rattle.ledger.specs.Fields.{records, rec, inState, client, holder, grant}
