@@ -23,7 +23,7 @@ use Rattle.desk.specs.declared.answer.Swept.{Swept}
 use Rattle.conduct.proofs.Turns.{number-refused}
 use Rattle.conduct.proofs.Rows.{push-cases, sweep-cases}
 use Rattle.conduct.proofs.Facts.{push-facts}
-use Rattle.cases.proofs.Times.{push-wrote}
+use Rattle.history.proofs.Effects.{push-after}
 use Rattle.cases.specs.Table.{shortest}
 use Rattle.cases.specs.Desks.{Seen, Desk, Allowed, Kind, pushes, decides, sweeps, kindOf, before, Caught, Refuses, Answers, Idles, outputIn, Withholds, Feigns, countsIn, InventsCounts, InventsNumbers, ShutOut}
 use Rattle.history.specs.Example.{table, text43, room}
@@ -150,7 +150,7 @@ unfolding step pushAt
 number-only l t table p o b y a e =
     ap (λ (s : Seen). grantOf (s .answer)) a
     ∙ push-cases l t table p (λ (w : Outcome Answer). w .answer .number ≡ done → w .answer .grant ≡ nextNumber l) (λ why u n. absurd (number-refused why n))
-    (λ ok n. push-wrote l t table p b y (push-facts l t table p ok) .grant-is)
+    (λ ok n. push-after l t table p b y (push-facts l t table p ok) .grant-is)
     (sym (ap (λ (s : Seen). numberIn (s .answer)) a) ∙ e)
 
 pub shut-out : ShutOut

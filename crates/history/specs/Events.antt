@@ -49,15 +49,16 @@ dropped c (r ∷ rs) (s ∷ ss) = provided (inState Consented r && inState Free 
 
 -- the map: call, answer, ledger before, ledger after
 abbrev pub happened : Call → Said → List ℕ → List ℕ → List Event
--- of the client that asks
+-- a push that was accepted: its client, and the grant number answered; no holder yet, 0 is answered
 happened (push t table p) a l m = provided (accepted a) (event Push (p .client) (holderOf a) (grantOf a) (push t table p))
--- of the client and the holder that it is made with
+-- a decide that was accepted, a consent or a no: the client and the holder that it was made with, the grant number answered
 happened (decide t d out) a l m = provided (accepted a) (event (cond (d .yes) Consent No) (d .client) (d .holder) (grantOf a) (decide t d out))
--- of the client that it is made with and the holder answered; a second use is of the record whose code is shown
+-- a token call that was accepted: the client that it was made with, the holder and the grant number answered;
+-- one that was answered 15: what the record says whose code it showed
 happened (token t table q) a l m =
     provided (accepted a) (event Token (q .client) (holderOf a) (grantOf a) (token t table q))
     ++ provided (eqb (numberIn a) (numberOf CodeRedeemed)) (ofRecord SecondUse (rec l (codeAt l q)) (token t table q))
--- of the holder and the grant number answered, and the client of the token's record
+-- a reading that was granted: the client of the token's record, the holder and the grant number answered
 happened (resource t q) a l m =
     provided (accepted a) (event Reading (client (rec l (tokenPlace l q))) (holderOf a) (grantOf a) (resource t q))
 happened (sweep t) a l m = dropped (sweep t) (records l) (records m)
@@ -74,7 +75,7 @@ events (s ∷ ss) = eventsOf s ++ events ss
 abbrev pub eventsIn : ℕ → List Call → List Event
 eventsIn n cs = events (steps (started n) cs)
 
--- ---- which event it is
+-- ---- which event it is: kinds are compared by numbers
 
 abbrev pub rank : EventKind → ℕ
 rank Push = 0

@@ -4,6 +4,8 @@ use mathlib.Core.Path.{_≡_}
 use mathlib.Core.Bool.{true, false}
 use mathlib.Core.List.{List, [], _∷_, _++_}
 use lib.ListN.{replicate}
+use Rattle.forms.specs.Limits.{verifierLeast}
+use Rattle.desk.specs.Limits.{outputLeast}
 use Rattle.desk.specs.Requests.{PushRequest, DecideRequest, TokenRequest, ResourceRequest}
 use Rattle.history.specs.Runs.{Call, push, decide, token, resource, sweep, AllTyped, lastIn}
 use Rattle.history.specs.Events.{Push, Consent, No, Token, Drop, SecondUse, Reading, event, eventsIn}
@@ -37,7 +39,7 @@ target = 0x68 ∷ 0x74 ∷ 0x74 ∷ 0x70 ∷ 0x73 ∷ 0x3A ∷ 0x2F ∷ 0x2F ∷
 
 -- an output buffer
 abbrev pub room : List ℕ
-room = replicate 64 0
+room = replicate outputLeast 0
 
 -- ---- the requests of a grant, by holder 9
 
@@ -57,7 +59,7 @@ redeems =
       key = programKey;
       presented = replicate 32 7;
       code = replicate 32 6;
-      verifier = secret 43;
+      verifier = secret verifierLeast;
       fresh = replicate 32 8;
     }
 
