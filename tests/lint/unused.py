@@ -7,8 +7,9 @@
 
 Names are the definitions, laws, records, data types and rulesets of specs/ and proofs/, and the functions, structs, enums and constants
 of src/. A name is reached from a root, or from a name that is reached and has it in its text; its own text does not count, nor does an
-import. Roots are `main`, exported functions, the proofs of functions (`NAME-spec` in a Proof.antt), and what a page of docs/ or README
-cites or quotes; and a function that takes nothing and answers a constant, whose contract ties it to its definition. The table of docs/OUTCOMES.md is no root: it is written from the sources. Fields and variants are not looked at.
+import. Roots are `main`, exported functions, the proofs of functions (`NAME-spec` in a Proof.antt), what a page of docs/ or README cites or
+quotes, and a function that takes nothing and answers a constant, whose contract ties it to its definition. The table of docs/OUTCOMES.md is
+no root: it is written from the sources. Fields and variants are not looked at; where a page cites a field, it cites its record.
 A word stands for a name wherever it is no projection, so that a local variable can hide an unused name, and a finding is one.
 An import is unused where no text of its file has the name, a crate of crates.txt where no source of the other has it.
 """
@@ -26,7 +27,7 @@ FIELD = re.compile(r"(?<=[{;])\s*[^\s={}();]+\s*=(?=\s)")  # record { field = ..
 SIGNATURE = re.compile(r"(?:(?:abbrev|unfoldable|pub)\s+)*([^\s(){}:]+)(?:\s+\{[^}]*\})*\s*:(?=\s)")
 DECLARED = re.compile(r"(?:pub\s+)?(?:record|data|ruleset)\s+(\S+)")
 USE = re.compile(r"^(?:pub |ghost )*use\s+([^\s{;]+?)(?:\.\{([^}]*)\}|\s+as\s+(\S+?))?;?\s*$", re.M)
-RUST_USE = re.compile(r"^\s*(?:pub )?use\s+((?:\w+::)*)(\w+);", re.M)
+RUST_USE = re.compile(r"^\s*(?:pub )?use\s+((?:\w+::)*)(\w+)(?:\s+as\s+(\w+))?;", re.M)
 RUST_NAME = re.compile(r"\b(?:fn|struct|enum|const)\s+(\w+)")
 # a function that takes nothing and answers a constant is there for its contract: it ties the constant to its definition
 TIE = re.compile(r"^fn \w+\(\) -> \w+\s+ensures\s*\{[^{}]*\}\s*\{\s*\w+::[A-Z_]+\s*\}$")
@@ -52,13 +53,13 @@ def has(plain, name):
 
 
 class File:
-    """A source with its declarations {name: text}, what it imports {local name: (file, name)}, and its aliases {alias: file}."""
+    """A source: its declarations {name: text}, fields {field: record}, imports {local name: (file, name)} and aliases {alias: file}."""
 
     def __init__(self, tree, path):
         self.tree, self.path = tree, path
         self.crate, self.part = path.split("/")[1:3]
         text = (tree.top / path).read_text(encoding="utf8")
-        self.names, self.imports, self.aliases, self.roots = {}, {}, {}, set()
+        self.names, self.fields, self.imports, self.aliases, self.roots = {}, {}, {}, {}, set()
         if path.endswith(".rt"):
             self.read_rattle(without(RATTLE_SKIP, text))
         else:
@@ -78,7 +79,7 @@ class File:
     def read_antt(self, text):
         """Declarations begin where the file's or a module's body stands; the module's head counts with each of them."""
         lines = [(len(line) - len(line.lstrip()), line.strip()) for line in self.take_uses(text).split("\n") if line.strip()]
-        bodies, name, head = [(0, "")], None, None
+        bodies, records, name, head = [(0, "")], set(), None, None
         for depth, line in lines:
             if head is not None and head.endswith("where"):
                 bodies.append((depth, bodies[-1][1] + " " + head))
@@ -95,11 +96,14 @@ class File:
                 name = None
             elif begins:
                 name = begins.group(1)
+                records |= {name} if DECLARED.match(line) else set()
                 self.names[name] = self.names.get(name, "") + bodies[-1][1] + " " + line
                 if self.path.endswith("/Proof.antt") and name.endswith("-spec"):
                     self.roots.add(name)
             elif name:
-                field = SIGNATURE.match(line) if DECLARED.match(self.names[name].strip()) else None
+                field = SIGNATURE.match(line) if name in records else None
+                if field:
+                    self.fields.setdefault(field.group(1), name)
                 self.names[name] += "\n" + (line[field.end():] if field else line)
 
     # Rattle
@@ -107,7 +111,7 @@ class File:
     def read_rattle(self, text):
         text = self.take_ghosts(text)
         for m in RUST_USE.finditer(text):
-            self.imports[m.group(2)] = self.tree.rust_target(self, m.group(1).split("::")[:-1], m.group(2))
+            self.imports[m.group(3) or m.group(2)] = self.tree.rust_target(self, m.group(1).split("::")[:-1], m.group(2))
         text = without(RUST_USE, text)
         impls = [(m.group(1), m.end() - 1, closing(text, m.end() - 1)) for m in IMPL.finditer(text)]
         for m in RUST_NAME.finditer(text):
@@ -246,7 +250,9 @@ class Tree:
         while waiting:
             path, name = waiting.pop()
             file = self.files.get(path)
-            if file is None or (path, name) in reached or name not in file.names:
+            if file and name not in file.names:
+                name = file.fields.get(name)
+            if file is None or (path, name) in reached or name is None:
                 continue
             reached.add((path, name))
             waiting += file.reached_by(file.names[name])
@@ -269,10 +275,15 @@ def check(top):
 SAMPLE = {
     "crates.txt": "# ground\na:\nb: a c\n",
     "README.md": "`crates/a/specs/Cited.antt: cited`\n",
-    "docs/PROMISES.md": "`crates/a/proofs/Laws.antt: law`, `crates/a/src/lib.rt: T::cited`\n\n```antt crates/a/specs/Cited.antt\nquoted : ℕ\n```\n",
+    "docs/PROMISES.md": """`crates/a/proofs/Laws.antt: law`, `crates/a/src/lib.rt: T::cited`, `crates/a/specs/Cited.antt: sentence`
+
+```antt crates/a/specs/Cited.antt
+quoted : ℕ
+```
+""",
     "docs/OUTCOMES.md": "<!-- functions -->\n| `crates/a/src/lib.rt: listed` |\n<!-- end -->\n",
     "docs/landings/0001.md": "`crates/a/specs/Cited.antt: landed`\n",
-    "crates/a/specs/Cited.antt": "pub cited : ℕ\ncited = 1\n\nquoted : ℕ\nquoted = 2\n\npub landed : ℕ\nlanded = 3\n",
+    "crates/a/specs/Cited.antt": "pub cited : ℕ\ncited = 1\n\nquoted : ℕ\nquoted = 2\n\npub landed : ℕ\nlanded = 3\n\npub record Demand : Type 0 where\n  sentence : ℕ\n",
     "crates/a/specs/Defs.antt": """-- said here
 use mathlib.Core.List.{List, [], _∷_}
 use mathlib.Core.Bool.{Bool, true}
@@ -312,7 +323,14 @@ second : ℕ
 second = first
 """,
     "crates/a/proofs/More.antt": "pub needed : ℕ\nneeded = 1\n\npub spare : ℕ\nspare = 1\n",
-    "crates/a/proofs/f/Proof.antt": "use Rattle.a.proofs.More.{needed}\nreturns : ℕ\nreturns = 1\nstray : ℕ\nstray = 1\npub f-spec : ℕ\nf-spec = returns\n",
+    "crates/a/proofs/f/Proof.antt": """use Rattle.a.proofs.More.{needed}
+returns : ℕ
+returns = 1
+stray : ℕ
+stray = 1
+pub f-spec : ℕ
+f-spec = returns
+""",
     "crates/a/src/lib.rt": """ghost use Rattle.a.specs.Defs.{used};
 pub mod m;
 use super::m::g;
