@@ -18,7 +18,7 @@ use Rattle.ledger.specs.Fields.{records, rec, slots, nextNumber, expiry, withRe
 use Rattle.ledger.specs.Sound.{sound}
 use Rattle.ledger.specs.Checks.{isFree, isReference, isCode, isToken, expired}
 use Rattle.ledger.proofs.Records.{rec-length, slots-with, rec-same}
-use Rattle.upkeep.specs.View.{slotOf, pushedSlot, redeemedSlot}
+use Rattle.upkeep.proofs.Slots.{slotOf, pushedSlot, redeemedSlot}
 use Rattle.upkeep.proofs.Heads.{slots-clock, rec-clock, slots-next, rec-next, next-left}
 use Rattle.upkeep.proofs.Says.{of-sound}
 use Rattle.upkeep.proofs.Searches.{First, first-in, reference-first, code-first, token-first, reference-says, code-says, token-says}
