@@ -160,12 +160,8 @@ class File:
                 found.add((self.path, name))
             if self.imports.get(name):
                 found.add(self.imports[name])
-        for kind, name in re.findall(r"\b(\w+)::(\w+)", text):
-            home, word = self.imports.get(kind) or (self.path, kind)
-            found.add((home, f"{word}::{name}"))
-            found.add((self.tree.rust_file(self.crate, [kind]), name))
-            if home.endswith(".rt") and word is None:
-                found.add((home, name))
+        for path in re.findall(r"\b\w+(?:::\w+)+", text):
+            found |= self.tree.rust_path(self, path.split("::"))
         for name in re.findall(r"\.(\w+)\(", text):
             found |= self.tree.methods(name)
         return found
@@ -208,13 +204,30 @@ class Tree:
                 return path
         return None
 
+    def crate_of(self, file, path):
+        """The crate that a path begins with, and the rest of the path."""
+        if path and path[0] in ("super", "crate"):
+            return file.crate, path[1:]
+        if path and self.rust_file(path[0], []) and not self.rust_file(file.crate, path[:1]):
+            return path[0], path[1:]
+        return file.crate, path
+
+    def rust_path(self, file, path):
+        """What `a::b::c` may mean: a name, or one of a type, in a file that the path's first words tell."""
+        home, word = file.imports.get(path[0]) or (None, None)
+        if home:
+            path = ([word] if word else []) + path[1:]
+            return {(home, path[0]), (home, "::".join(path[:2]))}
+        crate, rest = self.crate_of(file, path)
+        found = {(file.path, "::".join(path[:2]))}
+        for depth in range(len(rest)):
+            home = self.rust_file(crate, rest[:depth])
+            found |= {(home, rest[depth]), (home, "::".join(rest[depth:depth + 2]))} if home else set()
+        return found
+
     def rust_target(self, file, path, name):
         """What `use path::name;` means: a name of a file, or a file whose name it is."""
-        crate = file.crate
-        if path and path[0] in ("super", "crate"):
-            path = path[1:]
-        elif path and self.rust_file(path[0], []):
-            crate, path = path[0], path[1:]
+        crate, path = self.crate_of(file, path)
         module = self.rust_file(crate, path + [name])
         if module and not module.endswith(("/lib.rt", "/main.rt")):
             return module, None
@@ -350,6 +363,7 @@ impl T {
     pub fn uncalled(self) -> usize { T::LOOSE }
 }
 pub fn listed() -> usize { 1 }
+pub fn whole() -> usize { 1 }
 // fn said() {}
 #[no_mangle]
 pub extern "C" fn out(t: T) -> usize
@@ -359,7 +373,8 @@ pub extern "C" fn out(t: T) -> usize
 }
 """,
     "crates/a/src/m.rt": "pub fn g() -> usize { m_only() }\nfn m_only() -> usize { 1 }\npub fn idle() -> usize { 1 }\n",
-    "crates/b/src/main.rt": "use a::m;\nfn main() { let x = m::g(); }\nfn beside() {}\n",
+    "crates/a/src/n.rt": "pub struct Far {}\nimpl Far {\n    pub const AT: usize = 1;\n    pub const OFF: usize = 1;\n}\npub fn far() -> usize { 1 }\n",
+    "crates/b/src/main.rt": "use a::m;\nfn main() { let x = m::g(); let y = a::n::far() + a::n::Far::AT + a::whole(); }\nfn beside() {}\n",
 }
 FOUND = [
     ("crates/a/specs/Cited.antt", "reaches landed"),
@@ -369,6 +384,7 @@ FOUND = [
     ("crates/a/proofs/f/Proof.antt", "reaches stray"),
     *(("crates/a/src/lib.rt", f"reaches {name}") for name in ("Lone", "T::LOOSE", "T::uncalled", "listed")),
     ("crates/a/src/m.rt", "reaches idle"),
+    ("crates/a/src/n.rt", "reaches Far::OFF"),
     ("crates/b/src/main.rt", "reaches beside"),
     ("crates/a/specs/Defs.antt", "imports T"),
     ("crates/a/proofs/Laws.antt", "imports own"),
