@@ -1,4 +1,4 @@
--- What the desks are tried with: for each kind of call a run, and calls after it whose outcomes are computed. Assumes nothing.
+-- What the desks are tried with: for each kind of call a run, and calls after it whose outcomes are computed.
 use Prim.Native.Nat.{ℕ, _<_, _≤_, _^_}
 use mathlib.Core.Path.{_≡_, refl}
 use mathlib.Core.Bool.{false}
@@ -38,7 +38,9 @@ use Rattle.ledger.specs.Sweep.{sweptRecord, sweptTo, swept, due, freedOf, freed
 use Rattle.history.specs.Runs.{Call, push, decide, token, resource, sweep, TypedPush, step, numberIn, started, last, Typed, AllTyped, grantOf}
 use Rattle.cases.specs.Table.{shortest}
 use Rattle.cases.specs.Desks.{Kind, pushes, decides, redeems, reads, sweeps, kindOf, before, outputIn, countsIn}
-use Rattle.cases.proofs.Inputs.{table, secret, text43, program, programKey, asking, room, code, allowing, redeeming, reading, array, typed-push, typed-decide, typed-token, typed-resource}
+use Rattle.history.specs.Example.{table, secret, text43, program, programKey, room, reads as reading}
+use Rattle.history.proofs.Example.{array, typed-push, typed-decide, typed-token, typed-resource}
+use Rattle.cases.proofs.Inputs.{asking, code, allowing, redeeming}
 
 abbrev pub asks : Call
 asks = push 1000 table (asking 4 text43 shortest)

@@ -42,7 +42,7 @@ use Rattle.conduct.proofs.Readings.{time-says, known-is, is-known, scop
 
 -- ---- start
 
-pub start-accepted : (l : List ℕ) → ((start l) .number ≡ done) ↔ StartAccepted l
+pub start-accepted : (l : List ℕ) → ((start l) .answer ≡ done) ↔ StartAccepted l
 start-accepted l = (λ e. size-says l .0 (start-passed l .0 e), λ w. start-passed l .1 (size-says l .1 w))
 
 -- ---- push

@@ -62,7 +62,7 @@ three a = a .pushed ∷ a .consented ∷ a .redeemed ∷ []
 
 -- each call as desk defines it, on this ledger and this client table; "Start answers only its number", "Decide adds the redirect length"
 abbrev pub leaves : List ℕ → List ℕ → Call → Left
-leaves l table start = record { number = doStart l .number; beside = []; ledger = doStart l .ledger; output = [] }
+leaves l table start = record { number = doStart l .answer; beside = []; ledger = doStart l .ledger; output = [] }
 leaves l table (push t p) =
     record {
       number = doPush l t table p .answer .number;

@@ -1,8 +1,8 @@
--- Runs with the latest call first, for induction over the calls; their ledgers stay sound, and bytes. Assumes nothing.
+-- The ledgers of a run stay sound, and bytes; what every step keeps of ledger and events, every run keeps.
 use Prim.Native.Nat.{ℕ, _+_, _*_, _≤_}
-use mathlib.Core.Path.{_≡_, refl, sym, _∙_}
+use mathlib.Core.Path.{_≡_}
 use mathlib.Core.Bool.{true}
-use mathlib.Core.List.{List, [], _∷_, _++_, reverse, reverseAux, append-nil, append-assoc, reverse-cons}
+use mathlib.Core.List.{List, [], _∷_, _++_, append-nil, append-assoc}
 use Rattle.octets.proofs.Numbers.{Octets}
 use Rattle.ledger.specs.Sound.{sound}
 use Rattle.upkeep.proofs.Ranges.{octets-started}
@@ -24,42 +24,8 @@ use Rattle.conduct.proofs.Keeping.{
   sweep-sound,
   sweep-octets,
 }
-use Rattle.history.specs.Runs.{Call, push, decide, token, resource, sweep, TypedPush, TypedDecide, TypedToken, Typed, AllTyped, Step, step, steps, last, started}
-
-abbrev pub run : List ℕ → List Call → List ℕ
-run l [] = l
-run l (c ∷ cs) = step (run l cs) c .after
-
-abbrev pub trace : List ℕ → List Call → List Step
-trace l [] = []
-trace l (c ∷ cs) = step (run l cs) c ∷ trace l cs
-
--- ---- the calls the other way round
-
-steps-from : (l : List ℕ) (cs ds : List Call) → reverse (trace l (reverseAux cs ds)) ≡ reverse (trace l ds) ++ steps (run l ds) cs
-steps-from l [] ds = sym (append-nil _)
-steps-from l (c ∷ cs) ds = steps-from l cs (c ∷ ds) ∙ rw (reverse-cons, append-assoc)
-
-last-from : (l : List ℕ) (cs ds : List Call) → last (run l ds) cs ≡ run l (reverseAux cs ds)
-last-from l [] ds = refl
-last-from l (c ∷ cs) ds = last-from l cs (c ∷ ds)
-
-pub steps-is : (l : List ℕ) (cs : List Call) → steps l cs ≡ reverse (trace l (reverse cs))
-steps-is l cs = sym (steps-from l cs [])
-
-pub last-is : (l : List ℕ) (cs : List Call) → last l cs ≡ run l (reverse cs)
-last-is l cs = last-from l cs []
-
-typed-from : (cs ds : List Call) → AllTyped cs → AllTyped ds → AllTyped (reverseAux cs ds)
-typed-from [] ds y z = z
-typed-from (c ∷ cs) ds y z = typed-from cs (c ∷ ds) (y .1) (y .0, z)
-
-pub typed-reverse : (cs : List Call) → AllTyped cs → AllTyped (reverse cs)
-typed-reverse cs y = typed-from cs [] y tt
-
-pub typed-append : (cs ds : List Call) → AllTyped cs → AllTyped ds → AllTyped (cs ++ ds)
-typed-append [] ds y z = z
-typed-append (c ∷ cs) ds y z = (y .0, typed-append cs ds (y .1) z)
+use Rattle.history.specs.Runs.{Call, push, decide, token, resource, sweep, TypedPush, TypedDecide, TypedToken, Typed, AllTyped, step, steps, last, started}
+use Rattle.history.specs.Events.{Event, eventsOf, events}
 
 -- ---- sound ledgers of bytes
 
@@ -104,10 +70,21 @@ good-step l (token t table q) g y =
 good-step l (resource t q) g y = record { is-sound = resource-sound l t q (g .is-sound); bytes = resource-octets l t q (g .bytes) }
 good-step l (sweep t) g y = record { is-sound = sweep-sound l t (g .is-sound); bytes = sweep-octets l t (g .bytes) }
 
-pub good-run : (l : List ℕ) (cs : List Call) → Good l → AllTyped cs → Good (run l cs)
-good-run l [] g y = g
-good-run l (c ∷ cs) g y = good-step (run l cs) c (good-run l cs g (y .1)) (y .0)
+pub good-last : (cs : List Call) (l : List ℕ) → Good l → AllTyped cs → Good (last l cs)
+good-last [] l g y = g
+good-last (c ∷ cs) l g y = good-last cs (step l c .after) (good-step l c g (y .0)) (y .1)
 
+-- ---- what every step keeps, a run keeps: of the ledger as it stands and the events so far
+
+pub along : (P : List ℕ → List Event → Type 0)
+    → ((l : List ℕ) (es : List Event) (c : Call) → Good l → Typed c → P l es → P (step l c .after) (es ++ eventsOf (step l c)))
+    → (cs : List Call) (l : List ℕ) (es : List Event) → Good l → AllTyped cs → P l es → P (last l cs) (es ++ events (steps l cs))
+along P f [] l es g y x = rw (append-nil es) x
+along P f (c ∷ cs) l es g y x =
+    rw (← append-assoc es (eventsOf (step l c)) (events (steps (step l c .after) cs)))
+    (along P f cs (step l c .after) (es ++ eventsOf (step l c)) (good-step l c g (y .0)) (y .1) (f l es c g (y .0) x))
+
+-- the ledger that start leaves is sound, and bytes
 pub good-start : (n : ℕ) → 1 ≤ n → n ≤ 200 → Good (started n)
 unfolding fresh
 good-start n a b = record { is-sound = sound-start n a b; bytes = octets-started (32 + n * 256) }
