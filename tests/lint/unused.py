@@ -1,9 +1,10 @@
 #!/usr/bin/env python3
 """Every top-level name is reached by something: no law, definition, function or import stands there for nothing.
 
-  tests/lint/unused.py              look at this tree
-  tests/lint/unused.py --top DIR    look at another one
-  tests/lint/unused.py --self-test  look at a made-up tree, where the answer is known
+  tests/lint/unused.py                  look at this tree
+  tests/lint/unused.py --top DIR        look at another one
+  tests/lint/unused.py --drop-imports   write the sources without the imports that are not used; rt fmt then sets the lines
+  tests/lint/unused.py --self-test      look at a made-up tree, where the answer is known
 
 Names are the definitions, laws, records, data types and rulesets of specs/ and proofs/, and the functions, structs, enums and constants
 of src/. A name is reached from a root, or from a name that is reached and has it in its text; its own text does not count, nor does an
@@ -14,6 +15,7 @@ A word stands for a name wherever it is no projection, so that a local variable 
 An import is unused where no text of its file has the name, a crate of crates.txt where no source of the other has it.
 """
 import argparse
+import contextlib
 import re
 import sys
 import tempfile
@@ -284,6 +286,29 @@ def check(top):
     return len(reached), unused + imports + crates if tree.files else [f"{top} has no sources"]
 
 
+def without_import(text, local):
+    """The text of a source without the import of a name or alias."""
+    def shorter(m):
+        items = [item.strip() for item in m.group(2).split(",") if item.strip()]
+        left = [item for item in items if item.split(" as ")[-1].strip() != local]
+        return f"{m.group(1)}{{{', '.join(left)}}}{m.group(3)}" if left else ""
+
+    text = re.sub(r"^((?:ghost )?use [^\s{]+\.)\{([^}]*)\}(;?\n)", shorter, text, flags=re.M)
+    text = re.sub(rf"^use \S+ as {re.escape(local)}\n", "", text, flags=re.M)
+    return re.sub(rf"^use (?:\w+::)+(?:{re.escape(local)}|\w+ as {re.escape(local)});\n", "", text, flags=re.M)
+
+
+def drop_imports(top):
+    for path, file in Tree(top).files.items():
+        text = old = (top / path).read_text(encoding="utf8")
+        for local in file.unused_imports():
+            text = without_import(text, local)
+        if text != old:
+            (top / path).write_text(text, encoding="utf8")
+            print(path)
+    return 0
+
+
 # A made-up tree, and the findings in it.
 SAMPLE = {
     "crates.txt": "# ground\na:\nb: a c\n",
@@ -401,15 +426,22 @@ def self_test():
             Path(room, name).parent.mkdir(parents=True, exist_ok=True)
             Path(room, name).write_text(text, encoding="utf8")
         findings = check(Path(room))[1]
+        with contextlib.redirect_stdout(None):
+            drop_imports(Path(room))
+        left = [finding for finding in check(Path(room))[1] if " imports " in finding]
     wanted = [f"{path}: nothing {said}" if said.startswith("reaches") else f"{path}: {said} and does not use it" for path, said in FOUND]
     wrong = [f"not noticed: {finding}" for finding in sorted(set(wanted) - set(findings))]
     wrong += [f"is none: {finding}" for finding in sorted(set(findings) - set(wanted))]
+    wrong += [f"was not dropped: {finding}" for finding in left]
     return tally(len(wanted), wrong)
 
 
 if __name__ == "__main__":
     parser = argparse.ArgumentParser(description=__doc__, formatter_class=argparse.RawDescriptionHelpFormatter)
     parser.add_argument("--top", type=Path, default=TOP)
+    parser.add_argument("--drop-imports", action="store_true")
     parser.add_argument("--self-test", action="store_true")
     options = parser.parse_args()
+    if options.drop_imports:
+        sys.exit(drop_imports(options.top))
     sys.exit(self_test() if options.self_test else tally(*check(options.top)))
