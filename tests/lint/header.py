@@ -10,9 +10,9 @@ reference a pointer to its first byte. refusals.py compares the numbers returned
 """
 import re
 import sys
-from pathlib import Path
 
-TOP = Path(__file__).resolve().parents[2]
+sys.dont_write_bytecode = True
+from sources import TOP, tally  # noqa: E402
 
 NUMBERS = {"u8": "uint8_t", "u32": "uint32_t", "u64": "uint64_t", "usize": "size_t"}
 STRUCTS = ("Answer", "Decided", "Swept")
@@ -183,29 +183,26 @@ SPOILS = [
 ]
 
 
+def differing():
+    return [f"{name}: FAILED\n  said   {said}\n  source {wanted}" for name, said, wanted in results() if said != wanted]
+
+
 def self_test():
-    failed = 0
+    failures = differing()
+    if failures:
+        return tally(0, ["the files differ before they are spoilt", *failures])
     for path, old, new in SPOILS:
         text = (TOP / path).read_text(encoding="utf8")
         spoilt.update({path: text.replace(old, new, 1)})
-        if old not in text or all(said == wanted for _, said, wanted in results()):
-            failed += 1
-            print(f"{path}: {old!r} for {new!r} was not noticed")
+        if old not in text or not differing():
+            failures.append(f"{path}: {old!r} for {new!r} was not noticed")
         spoilt.clear()
-    print(f"{len(SPOILS) - failed} passed, {failed} failed")
-    return 1 if failed else 0
+    return tally(len(SPOILS) - len(failures), failures)
 
 
 def main():
-    passed = failed = 0
-    for name, said, wanted in results():
-        if said == wanted:
-            passed += 1
-        else:
-            failed += 1
-            print(f"{name}: FAILED\n  said   {said}\n  source {wanted}")
-    print(f"{passed} passed, {failed} failed")
-    return 1 if failed else 0
+    wrong = differing()
+    return tally(len(list(results())) - len(wrong), wrong)
 
 
 if __name__ == "__main__":
