@@ -23,8 +23,8 @@ use Rattle.clients.specs.Fields.{permitted, client, entries}
 use Rattle.clients.specs.Known.{hasId, hasKey, placeOf, isKnown}
 use Rattle.clients.specs.Sound.{lengthRight, idGiven, idsGiven, keyGiven, keysGiven, sameId, idsDistinct, restZero, restsZero, sound as tableSound}
 use Rattle.ledger.specs.Checks.{untimely, taken, isFree, isWith, isReference, isCode, isToken}
-use Rattle.ledger.specs.Fields.{rec, slots, records}
-use Rattle.ledger.specs.Sound.{sized, numbersSound, bytesSound, recordSound, sameGrant, holds, meets, ownApart, headSound, sound}
+use Rattle.ledger.specs.Fields.{rec, slots, records, stated}
+use Rattle.ledger.specs.Sound.{sized, numbersSound, bytesSound, usedSound, noToken, someToken, recordSound, sameGrant, holds, meets, ownApart, headSound, sound}
 use Rattle.ledger.specs.Write.{pushed, consented, redeemed, free}
 use Rattle.desk.specs.Checks.{first, scopeFits}
 use Rattle.desk.specs.Start.{fresh}
@@ -187,7 +187,7 @@ abbrev met : {r : Row} (x : Input (r .varied)) → InOrder (r .varied) x → Met
 met x o = record { input = x; in-order = o }
 
 pub every-row-is-met : Each Met rows
-unfolding tabulate numFrom num digits laid put blank zeros same visible urlSafe unreserved redirectFormed challengeFormed verifierFormed redirectPrefix client entries hasId hasKey placeOf isKnown lengthRight idGiven idsGiven keyGiven keysGiven sameId idsDistinct restZero restsZero tableSound untimely taken isFree isWith isReference isCode isToken rec slots records sized numbersSound bytesSound recordSound sameGrant holds meets ownApart headSound sound pushed consented redeemed free first scopeFits fresh pushChecks pushRecord pushAt doPush decideChecks consentRecord consentAt declineAt decideAt doDecide tokenChecks tokenRecord tokenAt doToken resourceChecks look doResource step elseInOrder K added compress hashValue joined sha256 pad blocks T1 round rounds next words schedule Σ0 Σ1 σ0 σ1 letter characters base64url matches
+unfolding tabulate numFrom num digits laid put blank zeros same visible urlSafe unreserved redirectFormed challengeFormed verifierFormed redirectPrefix client entries hasId hasKey placeOf isKnown lengthRight idGiven idsGiven keyGiven keysGiven sameId idsDistinct restZero restsZero tableSound untimely taken isFree isWith isReference isCode isToken rec slots records sized stated numbersSound bytesSound usedSound noToken someToken recordSound sameGrant holds meets ownApart headSound sound pushed consented redeemed free first scopeFits fresh pushChecks pushRecord pushAt doPush decideChecks consentRecord consentAt declineAt decideAt doDecide tokenChecks tokenRecord tokenAt doToken resourceChecks look doResource step elseInOrder K added compress hashValue joined sha256 pad blocks T1 round rounds next words schedule Σ0 Σ1 σ0 σ1 letter characters base64url matches
 every-row-is-met =
     met (replicate 288 7) refl
     and met (replicate 288 7) refl

@@ -13,7 +13,7 @@ use Rattle.ledger.specs.Fields.{records, rec, slots, state, stateNumber, inStat
 use Rattle.ledger.specs.Sound.{sound}
 use Rattle.ledger.specs.Checks.{isCode}
 use Rattle.ledger.specs.declared.state.State.the-variants.{Consented, Redeemed}
-use Rattle.upkeep.specs.View.{slotOf}
+use Rattle.upkeep.proofs.Slots.{slotOf}
 use Rattle.upkeep.proofs.Says.{of-sound}
 use Rattle.upkeep.proofs.Searches.{first-in, none-found, alone, code-holds, code-first, code-says}
 use Rattle.desk.specs.Answers.{numberOf, done}

@@ -14,7 +14,7 @@ use Rattle.ledger.specs.Fields.{records, rec, slots, nextNumber, expiry, withRe
 use Rattle.ledger.specs.Sound.{sound}
 use Rattle.ledger.specs.Checks.{isFree, isReference, isCode, isToken, expired}
 use Rattle.ledger.proofs.Records.{slots-with, rec-same}
-use Rattle.upkeep.specs.View.{slotOf}
+use Rattle.upkeep.proofs.Slots.{slotOf}
 use Rattle.upkeep.proofs.Heads.{slots-clock, rec-clock, slots-next, rec-next}
 use Rattle.upkeep.proofs.Searches.{First, reference-first, code-first, token-first, reference-says, code-says, token-says}
 use Rattle.desk.specs.Answers.{done}

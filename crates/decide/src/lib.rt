@@ -23,9 +23,9 @@ use ledger::clock::Timing;
 use ledger::clock::set_clock;
 use ledger::field::Field;
 use ledger::find::Found;
-use ledger::fresh::Freshness;
 use ledger::limit::Code;
 use ledger::limit::Ledger;
+use ledger::pool::Value;
 use ledger::record::Life;
 use ledger::record::check_life;
 use ledger::record::redirect_length;
@@ -66,7 +66,7 @@ fn check_fresh(ledger: &[u8], yes: bool, fresh: &[u8; 32]) -> Told
     if !yes {
         return Told::Passed;
     }
-    let Freshness::Fresh = ledger::fresh::check(ledger, fresh) else {
+    let Value::New = finding::pool::check(ledger, fresh) else {
         return Told::Failed;
     };
     Told::Passed
@@ -122,7 +122,7 @@ pub fn decide(
 ) -> Decided
     ensures { λ r. ⌜ leftWith r (now (ledger .exit)) (now (out .exit)) ≡ decide (now (ledger .entry)) time (record { reference = now (reference .entry); client = now (client .entry); yes = yes; holder = holder; fresh = now (fresh .entry) }) (now (out .entry)) ⌝ }
 {
-    let Soundness::Sound(_) = soundness::check(ledger) else {
+    let Soundness::Sound = soundness::check(ledger) else {
         return Decided::refused(Refusal::LedgerUnsound);
     };
     let Timing::Timely = ledger::clock::check(ledger, time) else {
@@ -131,7 +131,7 @@ pub fn decide(
     let Told::Passed = check::room(out) else {
         return Decided::refused(Refusal::OutputShort);
     };
-    let Found::At(k) = ledger::find::reference(ledger, reference, client) else {
+    let Found::At(k) = finding::record::reference(ledger, reference, client) else {
         return Decided::refused(Refusal::NoReference);
     };
     let Life::Alive = check_life(ledger::record::at(ledger, k), time) else {

@@ -45,7 +45,7 @@ use Rattle.ledger.specs.Write.{free}
 use Rattle.ledger.specs.Sweep.{swept, sweptRecord}
 use Rattle.ledger.specs.declared.state.State.the-variants.{Pushed, Consented, Redeemed}
 use Rattle.ledger.proofs.Records.{length-records, records-at, rec-length, length-with, records-with}
-use Rattle.upkeep.specs.View.{slotOf, pushedSlot, consentedSlot, redeemedSlot}
+use Rattle.upkeep.proofs.Slots.{slotOf, pushedSlot, consentedSlot, redeemedSlot}
 use Rattle.upkeep.proofs.Written.{Wrote as Leaves, pushed-wrote, consented-wrote, redeemed-wrote}
 use Rattle.ledger.proofs.Swept.{length-free, rec-swept, slots-swept}
 use Rattle.upkeep.proofs.Says.{neither, of-sound}

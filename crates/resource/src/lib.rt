@@ -28,13 +28,13 @@ pub fn look(
 ) -> Reading
     ensures { λ r. ⌜ r ≡ look (now (ledger .entry)) time (record { token = now (token .entry); presented = now (presented .entry); scope = scope; holder = holder }) ⌝ }
 {
-    let Soundness::Sound(_) = soundness::check(ledger) else {
+    let Soundness::Sound = soundness::check(ledger) else {
         return Reading::Refused(Refusal::LedgerUnsound);
     };
     let Timing::Timely = ledger::clock::check(ledger, time) else {
         return Reading::Refused(Refusal::TimeWrong);
     };
-    let Found::At(k) = ledger::find::token(ledger, token) else {
+    let Found::At(k) = finding::record::token(ledger, token) else {
         return Reading::Refused(Refusal::NoToken);
     };
     let r = at(ledger, k);

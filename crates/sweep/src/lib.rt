@@ -12,7 +12,7 @@ use ledger::sound::Soundness;
 pub fn sweep(ledger: &mut [u8], time: u64) -> Swept
     ensures { λ r. ⌜ left r (now (ledger .exit)) ≡ sweep (now (ledger .entry)) time ⌝ }
 {
-    let Soundness::Sound(_) = soundness::check(ledger) else {
+    let Soundness::Sound = soundness::check(ledger) else {
         return Swept::refused(Refusal::LedgerUnsound);
     };
     let Timing::Timely = ledger::clock::check(ledger, time) else {
