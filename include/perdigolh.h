@@ -2,7 +2,7 @@
  * Perdigolh, the permissions desk, for a web front: the six calls of document 01, from C or any language that can call C.
  *
  * Link target/staticlib/libfront.a, which `rt staticlib front` writes once every contract is proved (x86-64 Linux).
- * The functions are crates/front's; tests/header.py holds this file to that source.
+ * The functions are crates/front's; tests/lint/header.py holds this file to that source.
  *
  * What holds for every function:
  * - It ends, on every input of every length, with a number of the table below. It checks for itself the ledger, the table and the

@@ -1,4 +1,4 @@
-//! The archive's functions as include/perdigolh.h declares them; tests/header.py holds this file to their source.
+//! The archive's functions as include/perdigolh.h declares them; tests/lint/header.py holds this file to their source.
 //!
 //! # Safety
 //!

@@ -9,8 +9,10 @@ import shlex
 import subprocess
 import sys
 from collections import Counter
+from pathlib import Path
 
 sys.dont_write_bytecode = True
+sys.path.insert(0, str(Path(__file__).resolve().parents[1] / "generators"))
 from stream_maker import NO_FRAME, ORDER, Maker  # noqa: E402
 
 # What lines can reach: 9 needs 2^64 pushes, 20 a short output buffer, which the line program never lends.

@@ -1,15 +1,15 @@
 #!/usr/bin/env python3
 """The lines that crates/vectors must write, made by Python's own SHA-256 and base64.
 
-  tests/vectors.py print   the expected lines
-  tests/vectors.py check   compare crates/vectors/stdout with them, and the published digests and text with both
+  tests/runs/vectors.py print   the expected lines
+  tests/runs/vectors.py check   compare crates/vectors/stdout with them, and the published digests and text with both
 """
 import base64
 import hashlib
 import pathlib
 import sys
 
-STDOUT = pathlib.Path(__file__).resolve().parent.parent / "crates" / "vectors" / "stdout"
+STDOUT = pathlib.Path(__file__).resolve().parents[2] / "crates" / "vectors" / "stdout"
 
 # The digests that the documents print: the examples of FIPS 180-4, and RFC 7636, Appendix B.
 PUBLISHED = {

@@ -1,14 +1,15 @@
 #!/usr/bin/env python3
-"""Runs a line program on the stored streams of tests/lines/ and compares: tests/lines.py PROGRAM
+"""Runs a line program on the stored streams of tests/data/lines/ and compares: tests/runs/lines.py PROGRAM
 
-The worked grant of tools/grant is run too, and compared with tests/grant.expected.
+The worked grant of tools/grant is run too, and compared with tests/data/grant.expected.
 """
 import shlex
 import subprocess
 import sys
 from pathlib import Path
 
-TESTS = Path(__file__).resolve().parent
+TOP = Path(__file__).resolve().parents[2]
+DATA = TOP / "tests" / "data"
 
 
 def output(command, source):
@@ -21,8 +22,8 @@ def main():
         sys.exit(__doc__)
     program = sys.argv[1]
     runs = [(source.name, shlex.split(program), source, source.with_suffix(".out"))
-            for source in sorted((TESTS / "lines").glob("*.in"))]
-    runs.append(("tools/grant", [str(TESTS.parent / "tools" / "grant"), program], "/dev/null", TESTS / "grant.expected"))
+            for source in sorted((DATA / "lines").glob("*.in"))]
+    runs.append(("tools/grant", [str(TOP / "tools" / "grant"), program], "/dev/null", DATA / "grant.expected"))
     failed = 0
     for name, command, source, expected in runs:
         got, want = output(command, source).split(b"\n"), expected.read_bytes().split(b"\n")

@@ -1,5 +1,5 @@
 #!/usr/bin/env python3
-"""Feeds a line program the same stream through a pipe in small pieces, and waits for each answer: tests/pipes.py PROGRAM
+"""Feeds a line program the same stream through a pipe in small pieces, and waits for each answer: tests/runs/pipes.py PROGRAM
 
 However the input is cut, the output is the one of the whole file; and an answer comes before more input is sent. A failed read or write ends it.
 """
@@ -12,8 +12,10 @@ import subprocess
 import sys
 import tempfile
 import termios
+from pathlib import Path
 
 sys.dont_write_bytecode = True
+sys.path.insert(0, str(Path(__file__).resolve().parents[1] / "generators"))
 from stream_maker import Maker  # noqa: E402
 
 PIECES = [1, 2, 3, 641]

@@ -1,5 +1,5 @@
 #!/usr/bin/env python3
-"""Lines a second of two line programs on one stream, at 1 slot and at 200: tests/rate.py PROGRAM OTHER
+"""Lines a second of two line programs on one stream, at 1 slot and at 200: tests/runs/rate.py PROGRAM OTHER
 
 The ledger is filled but for one slot with redeemed grants; then push, decide with no, and two readings take turns, all at one time, so that
 every call reads a full ledger. Processor seconds count, of the best of several runs by turns. No test: nothing is compared with a limit.
@@ -10,8 +10,10 @@ import shlex
 import subprocess
 import sys
 import tempfile
+from pathlib import Path
 
 sys.dont_write_bytecode = True
+sys.path.insert(0, str(Path(__file__).resolve().parents[1] / "generators"))
 from stream_maker import MAX_SLOTS  # noqa: E402
 from frames import frame, s256  # noqa: E402
 

@@ -1,9 +1,9 @@
 #!/usr/bin/env python3
-"""README's worked example is what tools/grant prints: its lines stand in tests/grant.expected, in order."""
+"""README's worked example is what tools/grant prints: its lines stand in tests/data/grant.expected, in order."""
 import sys
 from pathlib import Path
 
-TOP = Path(__file__).resolve().parent.parent
+TOP = Path(__file__).resolve().parents[2]
 SECTION, INDENT = "## One grant, step by step\n", "    "
 
 
@@ -15,7 +15,7 @@ def example(page):
 
 def main():
     shown = example((TOP / "README.md").read_text(encoding="utf8"))
-    printed = iter((TOP / "tests" / "grant.expected").read_text(encoding="utf8").split("\n"))
+    printed = iter((TOP / "tests" / "data" / "grant.expected").read_text(encoding="utf8").split("\n"))
     wrong = [line for line in shown if line not in printed]  # a search in an iterator goes on from the last find
     for line in wrong[:1]:
         print(f"failed: tools/grant does not print, at its place: {line}")

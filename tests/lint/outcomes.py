@@ -1,8 +1,8 @@
 #!/usr/bin/env python3
 """Every public function's contract settles its outcome, and docs/OUTCOMES.md lists it so.
 
-  tests/outcomes.py check   one test a function: its form, and its row on the page
-  tests/outcomes.py write   write the table of the page anew
+  tests/lint/outcomes.py check   one test a function: its form, and its row on the page
+  tests/lint/outcomes.py write   write the table of the page anew
 
 A function is public where a caller of its crate can name it: `pub fn` in lib.rt or in a module that lib.rt makes public. Programs have none.
 The forms, r being what is returned and x a buffer lent to be written:
@@ -16,7 +16,7 @@ import re
 import sys
 from pathlib import Path
 
-TOP = Path(__file__).resolve().parent.parent
+TOP = Path(__file__).resolve().parents[2]
 PAGE = TOP / "docs" / "OUTCOMES.md"
 BEGIN, END = "<!-- functions -->", "<!-- end -->"
 COMMENT = re.compile(r"//[^\n]*")

@@ -10,7 +10,7 @@ import sys
 import tempfile
 from pathlib import Path
 
-TOP = Path(__file__).resolve().parent.parent
+TOP = Path(__file__).resolve().parents[2]
 KEEP = TOP / "target/bindings/debug/examples/keep"
 BUILD = ["cargo", "build", "--offline", "--example", "keep", "--manifest-path", "bindings/rust/Cargo.toml", "--target-dir", "target/bindings"]
 LEDGER = 32 + 2 * 256

@@ -10,7 +10,7 @@ import subprocess
 import sys
 from pathlib import Path
 
-TOP = Path(__file__).resolve().parent.parent
+TOP = Path(__file__).resolve().parents[2]
 ARCHIVE = "target/staticlib/libfront.a"
 STRICT = "-std=c11 -O1 -Wall -Wextra -Wpedantic -Wconversion -Werror -Iinclude -Itests/front".split()
 STREAMS = "--streams 45 --lines 300 --seed front --cover".split()
@@ -37,8 +37,8 @@ def steps():
     yield "grants and refusals in Rust", cargo("test", "--no-fail-fast", package="bindings/rust", folder="bindings"), True
     yield "the Rust example", cargo("run", "--example", "grant", package="bindings/rust", folder="bindings"), False
     for program in (LINES_IN_C, LINES_IN_RUST):
-        yield f"stored streams: {program}", ["python3", "tests/lines.py", program], True
-        yield f"random streams: {program}", ["python3", "tests/streams.py", "--a", program, "--b", line_program(), *STREAMS], True
+        yield f"stored streams: {program}", ["python3", "tests/runs/lines.py", program], True
+        yield f"random streams: {program}", ["python3", "tests/runs/streams.py", "--a", program, "--b", line_program(), *STREAMS], True
 
 
 def main():

@@ -1,8 +1,8 @@
 #!/usr/bin/env python3
 """No lifetime or limit of document 01 stands as a bare number outside the one place where it belongs.
 
-  tests/bare.py               look at crates/*/src and crates/*/specs
-  tests/bare.py --self-test   look at made-up crates, where the answer is known
+  tests/lint/bare.py               look at crates/*/src and crates/*/specs
+  tests/lint/bare.py --self-test   look at made-up crates, where the answer is known
 
 Numbers count by their value, however they are spelled (1_000, 0x3e8, 599u64, 2 ^ 40, 1 << 40); comments and strings do not count.
 - A number of PLAIN is a limit wherever it stands. It stands in an associated constant or in specs/Limits.antt, of one crate.
@@ -197,5 +197,5 @@ def self_test():
 if __name__ == "__main__":
     if sys.argv[1:] == ["--self-test"]:
         sys.exit(self_test())
-    crates, doubled = check(Path(__file__).resolve().parent.parent)
+    crates, doubled = check(Path(__file__).resolve().parents[2])
     sys.exit(report(list(crates.items()) + [("one place for each limit", doubled)]))

@@ -5,14 +5,14 @@ Read from both sides and compared: the functions, their arguments in order with 
 their fields in order; the numbers with their names and words; the sizes and lifetimes. A slice is a pointer and a length, an array
 behind a reference a pointer to its first byte.
 
-  tests/header.py               compare
-  tests/header.py --self-test   spoil the header or the bindings in one way at a time: the comparison must fail each time
+  tests/lint/header.py               compare
+  tests/lint/header.py --self-test   spoil the header or the bindings in one way at a time: the comparison must fail each time
 """
 import re
 import sys
 from pathlib import Path
 
-TOP = Path(__file__).resolve().parent.parent
+TOP = Path(__file__).resolve().parents[2]
 sys.dont_write_bytecode = True
 sys.path.insert(0, str(TOP / "tools"))
 from frames import WORDS  # noqa: E402

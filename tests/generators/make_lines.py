@@ -1,5 +1,5 @@
 #!/usr/bin/env python3
-"""Writes the stored streams of tests/lines/ with the answers of the second program: tests/make_lines.py SECOND
+"""Writes the stored streams of tests/data/lines/ with the answers of the second program: tests/generators/make_lines.py SECOND
 
 Beside every line stands the number that document 01 gives it; an answer with another number stops the writing.
 The example's answers are document 01's own text.
@@ -10,8 +10,9 @@ import sys
 from pathlib import Path
 
 sys.dont_write_bytecode = True
-TESTS = Path(__file__).parent
-sys.path.insert(0, str(TESTS.parent / "tools"))
+TOP = Path(__file__).resolve().parents[2]
+LINES = TOP / "tests" / "data" / "lines"
+sys.path.insert(0, str(TOP / "tools"))
 from frames import frame, s256  # noqa: E402
 
 FF = 0xff
@@ -171,8 +172,8 @@ def main():
                 sys.exit(f"{name}, line {place + 1}: must be {number}, is {answer}\n{line[:700]}")
         if name == "example" and output.decode() != EXAMPLE_ANSWERS:
             sys.exit("the example's answers are not document 01's")
-        (TESTS / "lines" / f"{name}.in").write_bytes(text)
-        (TESTS / "lines" / f"{name}.out").write_bytes(output)
+        (LINES / f"{name}.in").write_bytes(text)
+        (LINES / f"{name}.out").write_bytes(output)
 
 
 if __name__ == "__main__":

@@ -10,7 +10,7 @@ import re
 import sys
 from pathlib import Path
 
-TOP = Path(__file__).resolve().parent.parent
+TOP = Path(__file__).resolve().parents[2]
 PAGES = ["docs/PROMISES.md", "docs/OUTCOMES.md", "docs/READING.md", "docs/TRUST.md", "README.md"]
 CITATION = re.compile(r"`((?:crates|docs|tests|second|tools|include|bindings|bench)/[^`:\s]+)(?::\s*([^`]+))?`(?: line (\d+))?")
 

@@ -1,8 +1,8 @@
 #!/usr/bin/env python3
 """The lines that crates/plays must write for its script, a call a line, from document 01.
 
-  tests/plays.py print   the expected lines
-  tests/plays.py check   compare crates/plays/stdout with them, and see that the script plays these calls and every number of each call's list
+  tests/runs/plays.py print   the expected lines
+  tests/runs/plays.py check   compare crates/plays/stdout with them, and see that the script plays these calls and every number of each call's list
 
 A line is the call's name, its answer, and the clock and next number of the ledger that it leaves: a refusal leaves both. The script
 is crates/plays/stdin: a line of it is the same name, and what is asked.
@@ -10,7 +10,7 @@ is crates/plays/stdin: a line of it is the same name, and what is asked.
 import pathlib
 import sys
 
-PLAYS = pathlib.Path(__file__).resolve().parent.parent / "crates" / "plays"
+PLAYS = pathlib.Path(__file__).resolve().parents[2] / "crates" / "plays"
 
 # "The calls, with checks in order": what each call may answer, done included.
 LISTS = {

@@ -1,8 +1,8 @@
 #!/usr/bin/env python3
 """The verdicts that crates/verdicts must write, from document 01's rules of soundness.
 
-  tests/verdicts.py print   the expected lines
-  tests/verdicts.py check   compare crates/verdicts/stdout with them, each case with the rules, and its bytes with those of the script
+  tests/runs/verdicts.py print   the expected lines
+  tests/runs/verdicts.py check   compare crates/verdicts/stdout with them, each case with the rules, and its bytes with those of the script
 
 A case names its bytes and the one rule of the document that it breaks, or none. Beside the table below each rule stands as a test of bytes,
 so that a case is held to break that rule and no other. The script, crates/verdicts/stdin, is read here again, so that the program is
@@ -12,7 +12,7 @@ import pathlib
 import re
 import sys
 
-VERDICTS = pathlib.Path(__file__).resolve().parent.parent / "crates" / "verdicts"
+VERDICTS = pathlib.Path(__file__).resolve().parents[2] / "crates" / "verdicts"
 
 # ---- The rules, each under its sentence.
 

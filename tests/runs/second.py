@@ -5,7 +5,7 @@ import subprocess
 import sys
 from pathlib import Path
 
-TOP = Path(__file__).resolve().parent.parent
+TOP = Path(__file__).resolve().parents[2]
 COMMAND = ["cargo", "test", "--offline", "--no-fail-fast", "--manifest-path", "second/Cargo.toml", "--target-dir", "target/second"]
 
 
