@@ -19,7 +19,7 @@
 #include "perdigolh.h"
 #include "perdigolh_text.h"
 
-enum { RECORDS = 2, NAME_MOST = 4000 };
+enum { RECORDS = 8, NAME_MOST = 4000 };
 
 static void stop(const char *what) {
     perror(what);
