@@ -34,8 +34,7 @@ fn main() {
         let line = line.expect("a line");
         let words: Vec<&str> = line.split(' ').collect();
         let given = bytes_of(words[2].trim_start_matches('-'));
-        let answer =
-            by_kind!(words[0], words[1], &given, "code" Code "client" ClientId "reference" Reference "token" Token "thumbprint" Key);
+        let answer = by_kind!(words[0], words[1], &given, "code" Code "client" ClientId "reference" Reference "token" Token "thumbprint" Key);
         println!("{}", answer);
     }
 }
