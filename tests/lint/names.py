@@ -11,7 +11,7 @@ import sys
 from pathlib import Path
 
 TOP = Path(__file__).resolve().parents[2]
-PAGES = ["docs/PROMISES.md", "docs/OUTCOMES.md", "docs/READING.md", "docs/TRUST.md", "README.md"]
+PAGES = ["docs/PROMISES.md", "docs/OUTCOMES.md", "docs/READING.md", "docs/TRUST.md", "docs/FRONT.md", "docs/WIRE.md", "docs/FRONTS-GO-WRONG.md", "docs/OPERATOR.md", "README.md"]
 CITATION = re.compile(r"`((?:crates|docs|tests|second|tools|include|bindings|bench)/[^`:\s]+)(?::\s*([^`]+))?`(?: line (\d+))?")
 
 BLOCK = re.compile(r"^```antt (\S+)\n(.*?)^```$", re.S | re.M)

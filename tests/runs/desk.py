@@ -16,7 +16,7 @@ from pathlib import Path
 TOP = Path(__file__).resolve().parent.parent.parent
 sys.dont_write_bytecode = True
 sys.path[:0] = [str(TOP / "tools"), str(TOP / "tests" / "generators")]
-from frames import make, show, unframe  # noqa: E402
+from frames import WORDS, make, show, unframe  # noqa: E402
 from stream_maker import Maker  # noqa: E402
 
 FRAME, DESK = TOP / "tools/frame", TOP / "tools/desk"
@@ -110,6 +110,16 @@ def at_the_desk(program):
         yield "call by call", good
 
 
+def by_the_page(program):
+    """docs/OPERATOR.md: its first calls as they stand, and a row for each number."""
+    page = (TOP / "docs/OPERATOR.md").read_text(encoding="utf8")
+    command, *calls = re.findall(r"^    (.*)$", page.partition("## Start, feed, read")[2].partition("Each call is")[0], re.M)
+    answers, status = said(DESK, program, given="\n".join(calls))
+    yield "the page's calls are answered 0", command.startswith("tools/desk") and len(calls) == 4 and status == 0 and all(line.startswith("0: done") for line in answers)
+    rows = [int(n) for n in re.findall(r"^\| (\d+) \|", page.partition("## What each number asks of you")[2], re.M)]
+    yield "the page has each number", rows == sorted(WORDS)
+
+
 def with_a_log(program, room):
     calls, answers = grant()
     log = Path(room, "log")
@@ -127,6 +137,8 @@ def with_a_log(program, room):
         yield "two desks on one log", other.returncode == 1 and b"another desk" in other.stderr
         held.stdin.close()
     log.write_text("\n".join(frames[:2] + [frames[2][:-2]]))  # a push whose redirect is one byte shorter
+    pushed = subprocess.run([program], input=log.read_bytes(), capture_output=True, timeout=PATIENCE).stdout.decode().split("\n")
+    yield "a push that is cut off is a shorter push", pushed[2].startswith("00" + "%016x" % 1)
     cut = run(DESK, "--log", log, program, given="sweep now=9\n")
     yield "a log that is cut off is not replayed", cut.returncode == 1 and b"cut off" in cut.stderr and cut.stdout == b""
     log.write_text("\n".join(frames[:2] + ["00"]) + "\n")
@@ -141,7 +153,7 @@ def main(program):
     passed = failed = 0
     program = os.path.abspath(program)
     with tempfile.TemporaryDirectory() as room:
-        for results in (frames_in_words(), answers_in_words(), at_the_desk(program), with_a_log(program, room)):
+        for results in (frames_in_words(), answers_in_words(), at_the_desk(program), by_the_page(program), with_a_log(program, room)):
             for name, good in results:
                 passed, failed = passed + bool(good), failed + (not good)
                 if not good:
