@@ -218,6 +218,17 @@ static void chosen(void) {
     EXPECT(all);
 }
 
+/* The header's no is a no. */
+static void declined(void) {
+    begin(1);
+    push(in_order(1000, 0, REFERENCE));
+    request r = in_order(1010, REFERENCE, CODE);
+    r.yes = PERDIGOLH_NO;
+    EXPECT(is(decide(r).answer, 1, holder, 0, 0));
+    EXPECT(lent(ledger)[PERDIGOLH_LEDGER_HEAD] == 0);
+    REFUSED(token(in_order(1020, CODE, TOKEN)), PERDIGOLH_NO_CODE);
+}
+
 static void push_refused(void) {
     begin(2);
     sweep(5);
@@ -340,6 +351,7 @@ int main(void) {
     started();
     granted();
     chosen();
+    declined();
     push_refused();
     decide_refused();
     token_refused();

@@ -2,20 +2,17 @@
 """include/perdigolh.h and bindings/rust say of the exported calls what crates/front and the crates below it say.
 
 Read from both sides and compared: the functions, their arguments in order with names and types, what they answer; the structs with
-their fields in order; the numbers with their names and words; the sizes and lifetimes. A slice is a pointer and a length, an array
-behind a reference a pointer to its first byte.
+their fields in order; the sizes and lifetimes; that YES is the one yes and NO none. A slice is a pointer and a length, an array behind a
+reference a pointer to its first byte. refusals.py compares the numbers returned.
 
   tests/lint/header.py               compare
   tests/lint/header.py --self-test   spoil the header or the bindings in one way at a time: the comparison must fail each time
 """
 import re
 import sys
-from pathlib import Path
 
-TOP = Path(__file__).resolve().parents[2]
 sys.dont_write_bytecode = True
-sys.path.insert(0, str(TOP / "tools"))
-from frames import WORDS  # noqa: E402
+from sources import TOP, tally  # noqa: E402
 
 NUMBERS = {"u8": "uint8_t", "u32": "uint32_t", "u64": "uint64_t", "usize": "size_t"}
 STRUCTS = ("Answer", "Decided", "Swept")
@@ -144,7 +141,7 @@ def results():
     front, answers = read("crates/front/src/lib.rt"), read("crates/front/src/answer.rt")
     header, raw = read("include/perdigolh.h"), read("bindings/rust/src/raw.rs")
     plain = re.sub(r"/\*.*?\*/", "", header, flags=re.S)
-    library, refusals = read("bindings/rust/src/lib.rs"), read("bindings/rust/src/refusal.rs")
+    library = read("bindings/rust/src/lib.rs")
 
     calls = rattle_calls(front)
     names = ("start", "push", "decide", "token", "resource", "sweep", "version", f"interface_{constant('front/src/version.rt', 'Interface::NUMBER')}")
@@ -163,38 +160,18 @@ def results():
         yield f"header: struct {name}", declared.get(c_type(name)), source[name]
         yield f"bindings: struct {name}", bound.get(name), source[name]
 
-    rows = dict(re.findall(r"Refusal::(\w+) => (\d+),", read("crates/desk/src/answer.rt")))
-    wanted = {0: ("DONE", None)} | {int(n): (snake(name).upper(), WORDS[int(n)]) for name, n in rows.items()}
-    body = re.search(r"enum perdigolh_number \{(.*?)\n\};", header, re.S).group(1)
-    numbers = {int(n): (name, words or None) for name, n, words in re.findall(r"PERDIGOLH_(\w+) = (\d+),?(?:\s*/\* (.*?) \*/)?", body)}
-    yield "header: the numbers and their words", numbers, wanted
-    numbers = {int(n): (snake(name).upper(), words) for name, n, words in re.findall(r'(\w+) = (\d+), "([^"]*)";', refusals)}
-    yield "bindings: the refusals and their words", {0: ("DONE", None)} | numbers, wanted
-
     for name, path, origin in CONSTANTS:
         said = re.search(rf"#define PERDIGOLH_{name} (\d+)", header)
         yield f"header: {name}", said and int(said.group(1)), constant(path, origin)
         said = re.search(rf"const {name}: \w+ = (\d+);", library)
         yield f"bindings: {name}", said and int(said.group(1)), constant(path, origin)
 
-    for call, order in orders().items():
-        about = re.search(rf"/\*((?:(?!\*/).)*)\*/\s*\w+ perdigolh_{call}\(", header, re.S).group(1)
-        said = [int(n) for n in re.findall(r"\d+", re.search(r"Checks[^:]*: ([^.]*)\.", about).group(1).split("for")[0])]
-        yield f"header: the checks of {call} in order", said, order
+    yes = constant("front/src/choice.rt", "Choice::YES")
+    for side, said in (("header", re.search(r"#define PERDIGOLH_NO (\d+)\n", header)), ("bindings", re.search(r"const NO: u8 = (\d+);", library))):
+        yield f"{side}: NO is a no", said is not None and int(said.group(1)) != yes, True
 
 
-def orders():
-    """The numbers of each call in order, from the rows of its definition."""
-    rows = {name: int(n) for name, n in re.findall(r"^numberOf (\w+) = (\d+)", read("crates/desk/specs/Answers.antt"), re.M)}
-    found = {"start": [1]}
-    for call in ("push", "decide", "token", "resource", "sweep"):
-        text = read(f"crates/desk/specs/{call.capitalize()}.antt")
-        checks = re.search(rf"^{call}Checks .*?=(.*?)\n\n", text, re.S | re.M).group(1)
-        found[call] = [1, 2] + [rows[name] for name in re.findall(r"\((\w+) when", checks)]
-    return found
-
-
-HEADER, RAW, LIBRARY, REFUSALS = "include/perdigolh.h", "bindings/rust/src/raw.rs", "bindings/rust/src/lib.rs", "bindings/rust/src/refusal.rs"
+HEADER, RAW, LIBRARY = "include/perdigolh.h", "bindings/rust/src/raw.rs", "bindings/rust/src/lib.rs"
 SPOILS = [
     (HEADER, "const uint8_t client[16], const uint8_t key[32], uint32_t scope", "const uint8_t key[32], const uint8_t client[16], uint32_t scope"),
     (HEADER, "uint8_t yes, uint64_t holder", "uint32_t yes, uint64_t holder"),
@@ -203,42 +180,38 @@ SPOILS = [
     (HEADER, "perdigolh_swept perdigolh_sweep(", "perdigolh_answer perdigolh_sweep("),
     (HEADER, "    uint64_t holder;\n    uint32_t scope;\n", "    uint32_t scope;\n    uint64_t holder;\n"),
     (HEADER, "size_t consented;", "uint32_t consented;"),
-    (HEADER, "PERDIGOLH_NO_HOLDER = 12", "PERDIGOLH_NO_HOLDER = 13"),
-    (HEADER, "/* holder 0 */", "/* no holder */"),
     (HEADER, "#define PERDIGOLH_CODE_LIFETIME 60", "#define PERDIGOLH_CODE_LIFETIME 61"),
-    (HEADER, "Checks, in order: 1, 2, 17, 11, 18, 6, 19.", "Checks, in order: 1, 2, 17, 18, 11, 6, 19."),
     (HEADER, "PERDIGOLH_YES 1", "PERDIGOLH_YES 2"),
+    (HEADER, "PERDIGOLH_NO 0", "PERDIGOLH_NO 1"),
+    (HEADER, "#define PERDIGOLH_NO 0\n", ""),
+    (LIBRARY, "const NO: u8 = 0", "const NO: u8 = 1"),
     (RAW, "verifier: *const u8", "verifier: *mut u8"),
     (RAW, "presented: *const [u8; 32],\n        code", "code: *const [u8; 32],\n        presented"),
     (RAW, "    pub expiry: u64,\n", ""),
     (LIBRARY, "TOKEN_LIFETIME: u64 = 300", "TOKEN_LIFETIME: u64 = 301"),
-    (REFUSALS, "NoCode = 14", "NoCode = 15"),
 ]
 
 
+def differing():
+    return [f"{name}: FAILED\n  said   {said}\n  source {wanted}" for name, said, wanted in results() if said != wanted]
+
+
 def self_test():
-    failed = 0
+    failures = differing()
+    if failures:
+        return tally(0, ["the files differ before they are spoilt", *failures])
     for path, old, new in SPOILS:
         text = (TOP / path).read_text(encoding="utf8")
         spoilt.update({path: text.replace(old, new, 1)})
-        if old not in text or all(said == wanted for _, said, wanted in results()):
-            failed += 1
-            print(f"{path}: {old!r} for {new!r} was not noticed")
+        if old not in text or not differing():
+            failures.append(f"{path}: {old!r} for {new!r} was not noticed")
         spoilt.clear()
-    print(f"{len(SPOILS) - failed} passed, {failed} failed")
-    return 1 if failed else 0
+    return tally(len(SPOILS) - len(failures), failures)
 
 
 def main():
-    passed = failed = 0
-    for name, said, wanted in results():
-        if said == wanted:
-            passed += 1
-        else:
-            failed += 1
-            print(f"{name}: FAILED\n  said   {said}\n  source {wanted}")
-    print(f"{passed} passed, {failed} failed")
-    return 1 if failed else 0
+    wrong = differing()
+    return tally(len(list(results())) - len(wrong), wrong)
 
 
 if __name__ == "__main__":

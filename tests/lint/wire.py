@@ -1,19 +1,18 @@
 #!/usr/bin/env python3
 """The table of docs/WIRE.md: what each number at each call is outside.
 
-  tests/lint/wire.py check   the rows of bindings/rust/src/wire.rs are the numbers that each call gives, and the page has them
-  tests/lint/wire.py write   write the page's table anew
+  tests/lint/wire.py check         the rows of bindings/rust/src/wire.rs are the numbers that each call gives, and the page has them
+  tests/lint/wire.py write         write the page's table anew
+  tests/lint/wire.py --self-test   drop each row of the bindings and of the page: each must be noticed
 
-The numbers of a call, in order, are read from its definition in crates/desk/specs; the names from crates/desk.
+The names and the numbers of a call, in order, are read from the definitions in crates/desk/specs.
 """
 import re
 import sys
-from pathlib import Path
 
-TOP = Path(__file__).resolve().parent.parent.parent
 sys.dont_write_bytecode = True
-sys.path.insert(0, str(TOP / "tests" / "lint"))
-from header import orders, read  # noqa: E402
+from refusals import orders, read, rows as listed, spoilt  # noqa: E402
+from sources import TOP, tally  # noqa: E402
 
 SOURCE, PAGE = "bindings/rust/src/wire.rs", "docs/WIRE.md"
 BEGIN, END = "<!-- rows -->", "<!-- end -->"
@@ -23,8 +22,8 @@ ALARM = {"Never": "no", "Again": "again", "Always": "yes"}
 
 
 def numbers():
-    """Each refusal's number by its name, from the desk."""
-    return {name: int(n) for name, n in re.findall(r"Refusal::(\w+) => (\d+),", read("crates/desk/src/answer.rt"))}
+    """Each refusal's number by its name, from the definition."""
+    return {name: number for number, name in listed("the definition", "name")}
 
 
 def rows():
@@ -53,22 +52,43 @@ def results():
     yield "each number is explained", explained, set(numbers().values())
 
 
+def differing():
+    return [f"{name}: FAILED\n  said   {said}\n  wanted {wanted}" for name, said, wanted in results() if said != wanted]
+
+
+def write():
+    before, _, rest = read(PAGE).partition(BEGIN)
+    text = "\n".join([before + BEGIN, "", *table(), "", END + rest.partition(END)[2]])
+    (TOP / PAGE).write_text(text, encoding="utf8")
+    return 0
+
+
+def self_test():
+    if differing():
+        return tally(0, ["the table is not in order before it is spoilt", *differing()])
+    passed, failures = 0, []
+    for path, row in ((SOURCE, r"^    \w+ \w+: .*;\n"), (PAGE, r"^\| (?!Call|No\.|Number|-)[^\n]*\n")):
+        for found in re.finditer(row, read(path), re.M):
+            if path == PAGE and found.start() < read(PAGE).index(BEGIN):
+                continue  # what goes out when it is done
+            spoilt[path] = read(path)[:found.start()] + read(path)[found.end():]
+            noticed = bool(differing())
+            spoilt.clear()
+            passed += noticed
+            failures += [] if noticed else [f"was not noticed: {path} without {found.group().strip()[:60]}"]
+    return tally(passed, failures)
+
+
 def main(words):
     if words == ["write"]:
-        before, _, rest = read(PAGE).partition(BEGIN)
-        text = "\n".join([before + BEGIN, "", *table(), "", END + rest.partition(END)[2]])
-        (TOP / PAGE).write_text(text, encoding="utf8")
-        return 0
+        return write()
+    if words == ["--self-test"]:
+        return self_test()
     if words != ["check"]:
         print(__doc__, file=sys.stderr)
         return 2
-    passed = failed = 0
-    for name, said, wanted in results():
-        passed, failed = passed + (said == wanted), failed + (said != wanted)
-        if said != wanted:
-            print(f"{name}: FAILED\n  said   {said}\n  wanted {wanted}")
-    print(f"{passed} passed, {failed} failed")
-    return 1 if failed else 0
+    wrong = differing()
+    return tally(len(list(results())) - len(wrong), wrong)
 
 
 if __name__ == "__main__":

@@ -27,9 +27,9 @@ def run(*words, **more):
 
 
 def commands():
-    """The commands of the page's first block and of its section on installing, without their remarks."""
-    page = PAGE.read_text(encoding="utf8")
-    return [re.split(r"\s{2,}#", line)[0].strip() for line in page.splitlines() if re.match(r"    (rt|cc|cargo|make|target)\b", line)]
+    """The commands of the page's first block, without their remarks."""
+    block = re.search(r"^```sh\n(.*?)^```$", PAGE.read_text(encoding="utf8"), re.M | re.S).group(1)
+    return [re.split(r"\s{2,}#", line)[0].strip() for line in block.splitlines()]
 
 
 def grant(number):
@@ -39,11 +39,14 @@ def grant(number):
 def by_the_page():
     """The page's own commands, in the order that it has them. The gate has made the archive."""
     said = commands()
-    yield "the page has the archive, the example and the Rust example", [line.split()[0] for line in said[:4]] == ["rt", "cc", "target/front-example", "cargo"]
+    yield "the page has the archive, the example and the Rust example", [line.split()[0] for line in said] == ["rt", "cc", "target/front-example", "cargo"]
     yield said[1], run("sh", "-c", said[1]).returncode == 0
     Path(TOP, said[2].split()[1]).unlink(missing_ok=True)
     first = run("sh", "-c", said[2])
     yield said[2], (first.returncode, first.stdout) == (0, "start: 0\n" + grant(1))
+    elsewhere = {**os.environ, "CARGO_TARGET_DIR": "target/bindings"}  # a test leaves nothing in the tree
+    last = run("sh", "-c", said[3], env=elsewhere)
+    yield said[3], last.returncode == 0 and "the code a second time: 15" in last.stdout
 
 
 def in_a_file(program, room):

@@ -1,4 +1,4 @@
--- Every row of the table holds. Assumes nothing.
+-- Every row of the table holds.
 use Prim.Native.Nat.{ℕ}
 use native.Mathlib.Omega.{arith}
 use mathlib.Core.Path.{_≡_, refl, ap₂, _∙_}

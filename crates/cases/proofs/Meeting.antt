@@ -1,4 +1,4 @@
--- Every row of the table is met by an input. Assumes nothing.
+-- Every row of the table is met by an input.
 use Prim.Native.Nat.{ℕ, _-_, _^_}
 use native.Mathlib.Omega.{arith}
 use mathlib.Core.Path.{_≡_, refl}
@@ -23,8 +23,8 @@ use Rattle.clients.specs.Fields.{permitted, client, entries}
 use Rattle.clients.specs.Known.{hasId, hasKey, placeOf, isKnown}
 use Rattle.clients.specs.Sound.{lengthRight, idGiven, idsGiven, keyGiven, keysGiven, sameId, idsDistinct, restZero, restsZero, sound as tableSound}
 use Rattle.ledger.specs.Checks.{untimely, taken, isFree, isWith, isReference, isCode, isToken}
-use Rattle.ledger.specs.Fields.{rec, slots, records}
-use Rattle.ledger.specs.Sound.{sized, numbersSound, bytesSound, recordSound, sameGrant, holds, meets, ownApart, headSound, sound}
+use Rattle.ledger.specs.Fields.{rec, slots, records, stated}
+use Rattle.ledger.specs.Sound.{sized, numbersSound, bytesSound, usedSound, noToken, someToken, recordSound, sameGrant, holds, meets, ownApart, headSound, sound}
 use Rattle.ledger.specs.Write.{pushed, consented, redeemed, free}
 use Rattle.desk.specs.Checks.{first, scopeFits}
 use Rattle.desk.specs.Start.{fresh}
@@ -41,7 +41,9 @@ use Rattle.history.proofs.Steps.{checksOf}
 use Rattle.cases.specs.Cases.{Input, InOrder, DecideAfter, TokenAfter, ResourceAfter, PushScope, SweepFresh, TokenVerifier, PushRedirect, DecideFresh}
 use Rattle.cases.specs.Table.{shortest, tooShort, notSecure, rows, Row, Met, Each}
 use Rattle.cases.proofs.Holding.{_and_}
-use Rattle.cases.proofs.Inputs.{room, table, secret, text43, text42, text129, asking, allowing, code, redeeming, reading, typed-push, typed-decide, typed-token}
+use Rattle.history.specs.Example.{room, table, secret, text43, reads}
+use Rattle.history.proofs.Example.{typed-push, typed-decide, typed-token}
+use Rattle.cases.proofs.Inputs.{text42, text129, asking, allowing, code, redeeming}
 use Rattle.upkeep.proofs.Ranges.{octets-started}
 
 -- ---- the ledgers of a grant on one record: a push, a consent of it and a token of that
@@ -105,8 +107,8 @@ token-met t a e =
     }
 
 resource-met : (t : ℕ) → numberIn (step (consentedAt 1000 text43) (token 1059 table (redeeming (secret 43))) .answer) ≡ done
-    → elseInOrder RecordExpired (checksOf (redeemedAt 1059) (resource t reading)) ≡ true
-    → ResourceAfter 1059 t (redeemedAt 1059) (resource t reading)
+    → elseInOrder RecordExpired (checksOf (redeemedAt 1059) (resource t reads)) ≡ true
+    → ResourceAfter 1059 t (redeemedAt 1059) (resource t reads)
 resource-met t a e =
     record {
       before = consentedAt 1000 text43;
@@ -115,7 +117,7 @@ resource-met t a e =
       typed = typed-token 1059 (lit≤ tt);
       accepted = a;
       leaves = refl;
-      request = reading;
+      request = reads;
       is = refl;
       same-token = refl;
       in-order = e;
@@ -185,7 +187,7 @@ abbrev met : {r : Row} (x : Input (r .varied)) → InOrder (r .varied) x → Met
 met x o = record { input = x; in-order = o }
 
 pub every-row-is-met : Each Met rows
-unfolding tabulate numFrom num digits laid put blank zeros same visible urlSafe unreserved redirectFormed challengeFormed verifierFormed redirectPrefix client entries hasId hasKey placeOf isKnown lengthRight idGiven idsGiven keyGiven keysGiven sameId idsDistinct restZero restsZero tableSound untimely taken isFree isWith isReference isCode isToken rec slots records sized numbersSound bytesSound recordSound sameGrant holds meets ownApart headSound sound pushed consented redeemed free first scopeFits fresh pushChecks pushRecord pushAt doPush decideChecks consentRecord consentAt declineAt decideAt doDecide tokenChecks tokenRecord tokenAt doToken resourceChecks look doResource step elseInOrder K added compress hashValue joined sha256 pad blocks T1 round rounds next words schedule Σ0 Σ1 σ0 σ1 letter characters base64url matches
+unfolding tabulate numFrom num digits laid put blank zeros same visible urlSafe unreserved redirectFormed challengeFormed verifierFormed redirectPrefix client entries hasId hasKey placeOf isKnown lengthRight idGiven idsGiven keyGiven keysGiven sameId idsDistinct restZero restsZero tableSound untimely taken isFree isWith isReference isCode isToken rec slots records sized stated numbersSound bytesSound usedSound noToken someToken recordSound sameGrant holds meets ownApart headSound sound pushed consented redeemed free first scopeFits fresh pushChecks pushRecord pushAt doPush decideChecks consentRecord consentAt declineAt decideAt doDecide tokenChecks tokenRecord tokenAt doToken resourceChecks look doResource step elseInOrder K added compress hashValue joined sha256 pad blocks T1 round rounds next words schedule Σ0 Σ1 σ0 σ1 letter characters base64url matches
 every-row-is-met =
     met (replicate 288 7) refl
     and met (replicate 288 7) refl
@@ -197,8 +199,8 @@ every-row-is-met =
     and met (pushedAt 1000 text43, decide 1599 (allowing code) room) (decide-met 1599 refl refl)
     and met (consentedAt 1000 text43, token 1059 table (redeeming (secret 43))) (token-met 1059 refl refl)
     and met (consentedAt 1000 text43, token 1060 table (redeeming (secret 43))) (token-met 1060 refl refl)
-    and met (redeemedAt 1059, resource 1358 reading) (resource-met 1358 refl refl)
-    and met (redeemedAt 1059, resource 1359 reading) (resource-met 1359 refl refl)
+    and met (redeemedAt 1059, resource 1358 reads) (resource-met 1358 refl refl)
+    and met (redeemedAt 1059, resource 1359 reads) (resource-met 1359 refl refl)
     and met (started 1, push 1000 table (asking 4 text43 shortest)) (scope-met 4 refl refl)
     and met (started 1, push 1000 table (asking 2 text43 shortest)) (scope-met 2 refl refl)
     and met (started 1, push 1000 table (asking 0 text43 shortest)) (scope-met 0 refl refl)

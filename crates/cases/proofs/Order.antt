@@ -1,4 +1,4 @@
--- Where all else is in order the number is that of the one check, or 0. Assumes nothing.
+-- Where all else is in order the number is that of the one check, or 0.
 use Prim.Native.Nat.{ℕ}
 use mathlib.Core.Path.{_≡_, refl, sym, ap, _∙_}
 use mathlib.Core.Logic.{_↔_}

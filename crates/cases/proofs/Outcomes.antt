@@ -1,17 +1,23 @@
--- One outcome: by transitivity, whatever the form. Assumes nothing.
+-- One outcome: by transitivity, whatever the form.
 use Prim.Native.Nat.{ℕ}
 use mathlib.Core.Path.{_≡_, refl, sym, ap, ap₂, _∙_}
 use mathlib.Core.List.{List}
-use Rattle.desk.specs.Start.{Started, leftAt, start}
-use Rattle.desk.specs.Push.{Outcome, left, push}
-use Rattle.desk.specs.Decide.{Decision, leftBoth, decide}
+use Rattle.desk.specs.Outcome.{Outcome, left, leftWith}
+use Rattle.desk.specs.Start.{start}
+use Rattle.desk.specs.Push.{push}
+use Rattle.desk.specs.Decide.{decide}
 use Rattle.desk.specs.Token.{token}
 use Rattle.desk.specs.Resource.{resource}
-use Rattle.desk.specs.Sweep.{Sweeping, leftSwept, sweep}
+use Rattle.desk.specs.Sweep.{sweep}
 use Rattle.desk.specs.declared.answer.Answer.{Answer}
 use Rattle.desk.specs.declared.answer.Decided.{Decided}
 use Rattle.desk.specs.declared.answer.Swept.{Swept}
-use Rattle.cases.specs.Outcomes.{OneOutcome, Is, Are, Made, OneEach}
+use Rattle.front.specs.Consent.{consents}
+use Rattle.front.specs.Seen.{asAnswer, asDecided, asSwept}
+use Rattle.front.specs.declared.answer.Answer.{Answer as FrontAnswer}
+use Rattle.front.specs.declared.answer.Decided.{Decided as FrontDecided}
+use Rattle.front.specs.declared.answer.Swept.{Swept as FrontSwept}
+use Rattle.cases.specs.Outcomes.{OneOutcome, Is, Are, Made, OneEach, OneExported}
 
 is-one : (A : Type 0) (v : A) → OneOutcome (Is v)
 is-one A v x y a b = a ∙ sym b
@@ -28,12 +34,42 @@ one-each =
       of-is = is-one;
       of-are = are-one;
       of-made = made-one;
-      start-one = λ l. made-one (ℕ × List ℕ) Started (λ x. leftAt (x .0) (x .1)) (λ o. (o .number, o .ledger)) (λ x. refl) (start l);
-      push-one = λ l t table p. made-one (Answer × List ℕ) Outcome (λ x. left (x .0) (x .1)) (λ o. (o .answer, o .ledger)) (λ x. refl) (push l t table p);
+      start-one = λ l. made-one (ℕ × List ℕ) (Outcome ℕ) (λ x. left (x .0) (x .1)) (λ o. (o .answer, o .ledger)) (λ x. refl) (start l);
+      push-one = λ l t table p. made-one (Answer × List ℕ) (Outcome Answer) (λ x. left (x .0) (x .1)) (λ o. (o .answer, o .ledger)) (λ x. refl) (push l t table p);
       decide-one = λ l t d out.
-          made-one (Decided × (List ℕ × List ℕ)) Decision (λ x. leftBoth (x .0) (x .1 .0) (x .1 .1)) (λ o. (o .answer, (o .ledger, o .output)))
+          made-one (Decided × (List ℕ × List ℕ)) (Outcome Decided) (λ x. leftWith (x .0) (x .1 .0) (x .1 .1)) (λ o. (o .answer, (o .ledger, o .output)))
           (λ x. refl) (decide l t d out);
-      token-one = λ l t table q. made-one (Answer × List ℕ) Outcome (λ x. left (x .0) (x .1)) (λ o. (o .answer, o .ledger)) (λ x. refl) (token l t table q);
-      resource-one = λ l t q. made-one (Answer × List ℕ) Outcome (λ x. left (x .0) (x .1)) (λ o. (o .answer, o .ledger)) (λ x. refl) (resource l t q);
-      sweep-one = λ l t. made-one (Swept × List ℕ) Sweeping (λ x. leftSwept (x .0) (x .1)) (λ o. (o .answer, o .ledger)) (λ x. refl) (sweep l t);
+      token-one = λ l t table q. made-one (Answer × List ℕ) (Outcome Answer) (λ x. left (x .0) (x .1)) (λ o. (o .answer, o .ledger)) (λ x. refl) (token l t table q);
+      resource-one = λ l t q. made-one (Answer × List ℕ) (Outcome Answer) (λ x. left (x .0) (x .1)) (λ o. (o .answer, o .ledger)) (λ x. refl) (resource l t q);
+      sweep-one = λ l t. made-one (Swept × List ℕ) (Outcome Swept) (λ x. left (x .0) (x .1)) (λ o. (o .answer, o .ledger)) (λ x. refl) (sweep l t);
+    }
+
+-- ---- the structs that C reads lose nothing
+
+abbrev fromAnswer : Answer → FrontAnswer
+fromAnswer a = record { number = a .number; grant = a .grant; holder = a .holder; scope = a .scope; expiry = a .expiry }
+
+abbrev fromDecided : Decided → FrontDecided
+fromDecided d = record { answer = fromAnswer (d .answer); length = d .length }
+
+abbrev fromSwept : Swept → FrontSwept
+fromSwept s = record { number = s .number; pushed = s .pushed; consented = s .consented; redeemed = s .redeemed }
+
+answer-one : (v : Outcome Answer) → OneOutcome (λ (x : FrontAnswer × List ℕ). left (asAnswer (x .0)) (x .1) ≡ v)
+answer-one v =
+    made-one (FrontAnswer × List ℕ) (Outcome Answer) (λ x. left (asAnswer (x .0)) (x .1)) (λ o. (fromAnswer (o .answer), o .ledger)) (λ x. refl) v
+
+pub one-exported : OneExported
+one-exported =
+    record {
+      perdigolh-start = λ l. one-each .start-one l;
+      perdigolh-push = λ l t table p. answer-one (push l t table p);
+      perdigolh-decide = λ l t reference client yes holder fresh out.
+          made-one (FrontDecided × (List ℕ × List ℕ)) (Outcome Decided) (λ x. leftWith (asDecided (x .0)) (x .1 .0) (x .1 .1))
+          (λ o. (fromDecided (o .answer), (o .ledger, o .output))) (λ x. refl)
+          (decide l t (record { reference = reference; client = client; yes = consents yes; holder = holder; fresh = fresh }) out);
+      perdigolh-token = λ l t table q. answer-one (token l t table q);
+      perdigolh-resource = λ l t q. answer-one (resource l t q);
+      perdigolh-sweep = λ l t.
+          made-one (FrontSwept × List ℕ) (Outcome Swept) (λ x. left (asSwept (x .0)) (x .1)) (λ o. (fromSwept (o .answer), o .ledger)) (λ x. refl) (sweep l t);
     }

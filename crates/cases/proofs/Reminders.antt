@@ -1,4 +1,4 @@
--- What is easy to get wrong, shown right. Assumes nothing.
+-- What is easy to get wrong, shown right.
 use Prim.Native.Nat.{ℕ, _+_, _<_}
 use mathlib.Core.Path.{_≡_, refl, sym, ap, _∙_}
 use mathlib.Core.Logic.{_≢_, _⊎_, inr}
@@ -13,7 +13,7 @@ use Rattle.ledger.specs.Fields.{records, rec, slots, state, stateNumber, inStat
 use Rattle.ledger.specs.Sound.{sound}
 use Rattle.ledger.specs.Checks.{isCode}
 use Rattle.ledger.specs.declared.state.State.the-variants.{Consented, Redeemed}
-use Rattle.upkeep.specs.View.{slotOf}
+use Rattle.upkeep.proofs.Slots.{slotOf}
 use Rattle.upkeep.proofs.Says.{of-sound}
 use Rattle.upkeep.proofs.Searches.{first-in, none-found, alone, code-holds, code-first, code-says}
 use Rattle.desk.specs.Answers.{numberOf, done}
@@ -32,7 +32,8 @@ use Rattle.cases.specs.Order.{gives, passes}
 use Rattle.cases.specs.Cases.{answers}
 use Rattle.cases.specs.Reminders.{comesTo, Reminders}
 use Rattle.cases.proofs.Order.{conditionOf, number-is}
-use Rattle.cases.proofs.Times.{Stands, token-wrote, token-leaves}
+use Rattle.history.proofs.Effects.{token-after}
+use Rattle.cases.proofs.Times.{Stands, token-leaves}
 
 -- ---- where the turn of a row comes and its condition holds, its number is the answer
 
@@ -90,7 +91,7 @@ module _ (l : List ℕ) (a : ℕ) (table : List ℕ) (q : TokenRequest) (y : Typ
       token-leaves l a table q y (usedBy q)
       (λ f.
       let r = tokenRecord a q (rec l (codeAt l q)) in
-      let w = token-wrote l a table q y f in
+      let w = token-after l a table q y f in
       let found = first-in (isCode (q .code) (q .client)) l (f .there) in
       let was = code-says (q .code) (q .client) (rec l (codeAt l q)) .0 (found .passes) in
       both-true (isCode (q .code) (q .client) r) (inState Redeemed r)

@@ -1,4 +1,4 @@
--- One call with one thing varied: P7 and P9 to P12. Assumes nothing.
+-- One call with one thing varied: P7 and P9 to P12.
 use Prim.Native.Nat.{ℕ, _+_, _/_}
 use mathlib.Core.Path.{_≡_, refl, sym, ap, ap₂, _∙_}
 use mathlib.Core.Bool.{Bool, true, false, not, _&&_, _||_, cond}

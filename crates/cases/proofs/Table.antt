@@ -1,4 +1,4 @@
--- The table of the proved edges: every row holds, and every row is met. Assumes nothing.
+-- The table of the proved edges: every row holds, and every row is met.
 use Rattle.cases.specs.Table.{TheTable}
 use Rattle.cases.proofs.Holding.{every-row-holds}
 use Rattle.cases.proofs.Meeting.{every-row-is-met}

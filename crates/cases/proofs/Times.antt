@@ -1,42 +1,40 @@
--- The last good second of a reference, a code and a token, and the one after it: P4 to P6. Assumes nothing.
+-- The last good second of a reference, a code and a token, and the one after it: P4 to P6.
 use Prim.Native.Nat.{ℕ, _+_, _<_}
-use native.Mathlib.Omega.{arith}
 use mathlib.Core.Path.{_≡_, refl, ap, _∙_}
 use mathlib.Core.Logic.{inl}
 use mathlib.Core.Bool.{Bool, true}
 use mathlib.Core.List.{List}
 use lib.Dec.{leb}
 use lib.ListN.{length}
-use borrow.Author.Tests.{not-false, eqb-false}
+use borrow.Author.Tests.{not-false}
 use Rattle.octets.specs.Lists.{place}
-use Rattle.octets.proofs.Tests.{both}
 use Rattle.octets.proofs.Numbers.{Octets}
-use Rattle.forms.specs.Forms.{redirectFormed, challengeFormed}
-use Rattle.forms.proofs.Laws.{challenge-length, redirect-length}
-use Rattle.ledger.specs.Limits.{referenceLifetime, codeLifetime, tokenLifetime, lastNumber}
+use Rattle.ledger.specs.Limits.{referenceLifetime, codeLifetime, tokenLifetime}
 use Rattle.ledger.specs.Fields.{records, rec, slots, nextNumber, expiry, withRecord, withNext, withClock}
 use Rattle.ledger.specs.Sound.{sound}
 use Rattle.ledger.specs.Checks.{isFree, isReference, isCode, isToken, expired}
-use Rattle.ledger.proofs.Records.{rec-length, slots-with, rec-same}
-use Rattle.upkeep.specs.View.{slotOf, pushedSlot, redeemedSlot}
-use Rattle.upkeep.proofs.Heads.{slots-clock, rec-clock, slots-next, rec-next, next-left}
-use Rattle.upkeep.proofs.Says.{of-sound}
-use Rattle.upkeep.proofs.Searches.{First, first-in, reference-first, code-first, token-first, reference-says, code-says, token-says}
-use Rattle.upkeep.proofs.Written.{Wrote, pushed-wrote, consented-wrote, redeemed-wrote}
+use Rattle.ledger.proofs.Records.{slots-with, rec-same}
+use Rattle.upkeep.proofs.Slots.{slotOf}
+use Rattle.upkeep.proofs.Heads.{slots-clock, rec-clock, slots-next, rec-next}
+use Rattle.upkeep.proofs.Searches.{First, reference-first, code-first, token-first, reference-says, code-says, token-says}
 use Rattle.desk.specs.Answers.{done}
 use Rattle.desk.specs.Requests.{PushRequest, DecideRequest, TokenRequest}
-use Rattle.desk.specs.Push.{Outcome, pushRecord, pushAt}
-use Rattle.desk.specs.Decide.{Decision, referenceAt, consentRecord, consentAt, decideChecks}
+use Rattle.desk.specs.Outcome.{Outcome}
+use Rattle.desk.specs.declared.answer.Answer.{Answer}
+use Rattle.desk.specs.declared.answer.Decided.{Decided}
+use Rattle.desk.specs.Push.{pushRecord, pushAt}
+use Rattle.desk.specs.Decide.{referenceAt, consentRecord, consentAt, decideChecks}
 use Rattle.desk.specs.Token.{codeAt, tokenRecord, tokenAt, tokenChecks}
 use Rattle.desk.specs.Resource.{resourceChecks}
 use Rattle.desk.specs.declared.answer.Refusal.the-variants.{LedgerUnsound, RecordExpired}
-use Rattle.desk.proofs.Written.{decide-yes, timely-lt}
+use Rattle.desk.proofs.Written.{decide-yes}
 use Rattle.conduct.proofs.Turns.{number-refused}
 use Rattle.conduct.proofs.Rows.{push-cases, decide-cases, token-cases}
-use Rattle.conduct.proofs.Facts.{PushFacts, push-facts, decide-facts, TokenFacts, token-facts}
+use Rattle.conduct.proofs.Facts.{push-facts, decide-facts, TokenFacts, token-facts}
 use Rattle.conduct.proofs.Readings.{place-named}
 use Rattle.history.specs.Runs.{Call, push, decide, token, resource, TypedPush, TypedDecide, TypedToken, step, numberIn}
 use Rattle.history.proofs.Steps.{checksOf}
+use Rattle.history.proofs.Effects.{push-found, push-after, decide-found, decide-by, consent-after, token-found, token-after}
 use Rattle.cases.specs.Cases.{DecideAfter, TokenAfter, ResourceAfter, answers}
 use Rattle.cases.proofs.Order.{numberIf, else-passes, else-answers}
 
@@ -73,31 +71,18 @@ module _ (l : List ℕ) (t : ℕ) (k : ℕ) (r : List ℕ) (q : List ℕ → Boo
       }
 
 module _ (l : List ℕ) (t : ℕ) (table : List ℕ) (p : PushRequest) (o : Octets l) (y : TypedPush t table p) where
-  pub push-wrote : PushFacts l t table p → Wrote (rec l (place isFree (records l))) (pushRecord l t table p (rec l (place isFree (records l))))
-      (pushedSlot (p .scope) (nextNumber l) (t + referenceLifetime) (p .client) (p .challenge) (p .fresh) (p .redirect) (slotOf (rec l (place isFree (records l)))))
-  unfolding pushRecord
-  push-wrote f =
-      let k = place isFree (records l) in
-      let s = of-sound l (f .ledger-sound) .least in
-      let n = next-left l o (omega arith) (eqb-false (nextNumber l) lastNumber (f .numbers-left)) in
-      let b = timely-lt l t (f .in-time) in
-      let (u, v) = both (redirectFormed (p .redirect)) (challengeFormed (p .challenge)) (f .formed) in
-      pushed-wrote (p .scope) (nextNumber l) (t + referenceLifetime) (p .client) (p .challenge) (p .fresh) (p .redirect) (rec l k)
-      (y .scope) (omega arith) (omega arith) (y .client .long) (challenge-length (p .challenge) v) (y .fresh .long)
-      (redirect-length (p .redirect) u .1) (rec-length l k (first-in isFree l (f .room) .inside))
-
   push-stands : numberIn (step l (push t table p) .answer) ≡ done
       → Stands (isReference (p .fresh) (p .client)) (t + referenceLifetime) (step l (push t table p) .after)
   unfolding step pushAt slotOf
   push-stands =
-      push-cases l t table p (λ (o : Outcome). o .answer .number ≡ done → Stands (isReference (p .fresh) (p .client)) (t + referenceLifetime) (o .ledger))
+      push-cases l t table p (λ (o : Outcome Answer). o .answer .number ≡ done → Stands (isReference (p .fresh) (p .client)) (t + referenceLifetime) (o .ledger))
       (λ why u e. absurd (number-refused why e))
       (λ ok e.
       let f = push-facts l t table p ok in
       let k = place isFree (records l) in
       let r = pushRecord l t table p (rec l k) in
-      let a = push-wrote f in
-      numbered-stands l t k r (isReference (p .fresh) (p .client)) (t + referenceLifetime) (first-in isFree l (f .room) .inside) (a .long)
+      let a = push-after l t table p o y f in
+      numbered-stands l t k r (isReference (p .fresh) (p .client)) (t + referenceLifetime) (push-found l t table p o y f .inside) (a .long)
       (reference-says (p .fresh) (p .client) r .1 (a .state-is, (a .value-is, a .client-is))) (a .expiry-is) (nextNumber l + 1))
 
 module _ (l : List ℕ) (t : ℕ) (d : DecideRequest) (out : List ℕ) (y : TypedDecide t d out) (says : d .yes ≡ true) where
@@ -106,53 +91,40 @@ module _ (l : List ℕ) (t : ℕ) (d : DecideRequest) (out : List ℕ) (y : Type
   unfolding step consentAt consentRecord slotOf
   consent-stands =
       decide-cases l t d out
-      (λ (o : Decision). o .answer .answer .number ≡ done → Stands (isCode (d .fresh) (d .client)) (t + codeLifetime) (o .ledger))
+      (λ (o : Outcome Decided). o .answer .answer .number ≡ done → Stands (isCode (d .fresh) (d .client)) (t + codeLifetime) (o .ledger))
       (λ why u e. absurd (number-refused why e))
       (λ ok e.
       let f = decide-facts l t d out ok in
       let k = referenceAt l d in
       let r = consentRecord t (d .holder) (d .fresh) (rec l k) in
-      let found = first-in (isReference (d .reference) (d .client)) l (f .there) in
-      let was = reference-says (d .reference) (d .client) (rec l k) .0 (found .passes) in
-      let b = timely-lt l t (f .in-time) in
-      let a =
-      consented-wrote (t + codeLifetime) (d .holder) (d .fresh) (rec l k) (omega arith) (y .holder) (y .fresh .long)
-      (rec-length l k (found .inside)) in
+      let found = decide-found l t d out y f in
+      let a = consent-after l t d out y f in
       rw (decide-yes l t d out k says refl)
       (written-stands l t k r (isCode (d .fresh) (d .client)) (t + codeLifetime) (found .inside) (a .long)
-      (code-says (d .fresh) (d .client) r .1 (inl (a .state-is), (a .value-is, a .client-is ∙ was .1 .1))) (a .expiry-is)))
+      (code-says (d .fresh) (d .client) r .1 (inl (a .state-is), (a .value-is, a .client-is ∙ decide-by l t d out y f))) (a .expiry-is)))
 
 module _ (l : List ℕ) (t : ℕ) (table : List ℕ) (q : TokenRequest) (y : TypedToken t table q) where
-  abbrev pub tokenOne : List ℕ
-  tokenOne = tokenRecord t q (rec l (codeAt l q))
-
-  pub token-wrote : TokenFacts l t table q
-      → Wrote (rec l (codeAt l q)) tokenOne (redeemedSlot (t + tokenLifetime) (q .fresh) (q .presented) (slotOf (rec l (codeAt l q))))
-  unfolding tokenRecord
-  token-wrote f =
-      let k = codeAt l q in
-      let b = timely-lt l t (f .in-time) in
-      redeemed-wrote (t + tokenLifetime) (q .fresh) (q .presented) (rec l k) (omega arith) (y .fresh .long) (y .presented .long)
-      (rec-length l k (first-in (isCode (q .code) (q .client)) l (f .there) .inside))
+  abbrev redeemed : List ℕ
+  redeemed = tokenRecord t q (rec l (codeAt l q))
 
   -- whatever the record passes
-  pub token-leaves : (test : List ℕ → Bool) → (TokenFacts l t table q → test tokenOne ≡ true) → numberIn (step l (token t table q) .answer) ≡ done
+  pub token-leaves : (test : List ℕ → Bool) → (TokenFacts l t table q → test redeemed ≡ true) → numberIn (step l (token t table q) .answer) ≡ done
       → Stands test (t + tokenLifetime) (step l (token t table q) .after)
   unfolding step tokenAt
   token-leaves test g =
-      token-cases l t table q (λ (o : Outcome). o .answer .number ≡ done → Stands test (t + tokenLifetime) (o .ledger))
+      token-cases l t table q (λ (o : Outcome Answer). o .answer .number ≡ done → Stands test (t + tokenLifetime) (o .ledger))
       (λ why u e. absurd (number-refused why e))
       (λ ok e.
       let f = token-facts l t table q ok in
-      let a = token-wrote f in
-      written-stands l t (codeAt l q) tokenOne test (t + tokenLifetime) (first-in (isCode (q .code) (q .client)) l (f .there) .inside) (a .long) (g f)
+      let a = token-after l t table q y f in
+      written-stands l t (codeAt l q) redeemed test (t + tokenLifetime) (token-found l t table q y f .inside) (a .long) (g f)
       (a .expiry-is))
 
   token-stands : numberIn (step l (token t table q) .answer) ≡ done
       → Stands (isToken (q .fresh)) (t + tokenLifetime) (step l (token t table q) .after)
   token-stands =
       token-leaves (isToken (q .fresh))
-      (λ f. let a = token-wrote f in token-says (q .fresh) tokenOne .1 (a .state-is, a .token-is))
+      (λ f. let a = token-after l t table q y f in token-says (q .fresh) redeemed .1 (a .state-is, a .token-is))
 
 -- ---- the second call finds it, and goes by the time
 

@@ -1,4 +1,4 @@
--- What the desks are tried with: for each kind of call a run, and calls after it whose outcomes are computed. Assumes nothing.
+-- What the desks are tried with: for each kind of call a run, and calls after it whose outcomes are computed.
 use Prim.Native.Nat.{ℕ, _<_, _≤_, _^_}
 use mathlib.Core.Path.{_≡_, refl}
 use mathlib.Core.Bool.{false}
@@ -22,8 +22,8 @@ use Rattle.clients.specs.Fields.{client, entries}
 use Rattle.clients.specs.Known.{hasId, hasKey, placeOf, isKnown}
 use Rattle.clients.specs.Sound.{lengthRight, idGiven, idsGiven, keyGiven, keysGiven, sameId, idsDistinct, restZero, restsZero, sound as tableSound}
 use Rattle.ledger.specs.Checks.{untimely, taken, isFree, isWith, isReference, isCode, isToken}
-use Rattle.ledger.specs.Fields.{rec, slots, records}
-use Rattle.ledger.specs.Sound.{sized, numbersSound, bytesSound, recordSound, sameGrant, holds, meets, ownApart, headSound, sound}
+use Rattle.ledger.specs.Fields.{rec, slots, records, stated}
+use Rattle.ledger.specs.Sound.{sized, numbersSound, bytesSound, usedSound, noToken, someToken, recordSound, sameGrant, holds, meets, ownApart, headSound, sound}
 use Rattle.ledger.specs.Write.{pushed, consented, redeemed, free}
 use Rattle.desk.specs.Checks.{first, scopeFits}
 use Rattle.desk.specs.Requests.{PushRequest}
@@ -38,7 +38,9 @@ use Rattle.ledger.specs.Sweep.{sweptRecord, sweptTo, swept, due, freedOf, freed
 use Rattle.history.specs.Runs.{Call, push, decide, token, resource, sweep, TypedPush, step, numberIn, started, last, Typed, AllTyped, grantOf}
 use Rattle.cases.specs.Table.{shortest}
 use Rattle.cases.specs.Desks.{Kind, pushes, decides, redeems, reads, sweeps, kindOf, before, outputIn, countsIn}
-use Rattle.cases.proofs.Inputs.{table, secret, text43, program, programKey, asking, room, code, allowing, redeeming, reading, array, typed-push, typed-decide, typed-token, typed-resource}
+use Rattle.history.specs.Example.{table, secret, text43, program, programKey, room, reads as reading}
+use Rattle.history.proofs.Example.{array, typed-push, typed-decide, typed-token, typed-resource}
+use Rattle.cases.proofs.Inputs.{asking, code, allowing, redeeming}
 
 abbrev pub asks : Call
 asks = push 1000 table (asking 4 text43 shortest)
@@ -90,7 +92,7 @@ pub record Computed : Type 0 where
   pub second-number : grantOf (step (last (started 2) otherFirst) (callAt 1030 pushes) .answer) ≡ 2
 
 pub computed : Computed
-unfolding tabulate numFrom num digits laid put blank zeros same visible urlSafe unreserved redirectFormed challengeFormed verifierFormed redirectPrefix client entries hasId hasKey placeOf isKnown lengthRight idGiven idsGiven keyGiven keysGiven sameId idsDistinct restZero restsZero tableSound untimely taken isFree isWith isReference isCode isToken rec slots records sized numbersSound bytesSound recordSound sameGrant holds meets ownApart headSound sound pushed consented redeemed free first scopeFits fresh pushChecks pushRecord pushAt doPush decideChecks consentRecord consentAt declineAt decideAt doDecide tokenChecks tokenRecord tokenAt doToken resourceChecks look doResource step K added compress hashValue joined sha256 pad blocks T1 round rounds next words schedule Σ0 Σ1 σ0 σ1 letter characters base64url matches sweptRecord sweptTo swept due freedOf freed sweepChecks doSweep
+unfolding tabulate numFrom num digits laid put blank zeros same visible urlSafe unreserved redirectFormed challengeFormed verifierFormed redirectPrefix client entries hasId hasKey placeOf isKnown lengthRight idGiven idsGiven keyGiven keysGiven sameId idsDistinct restZero restsZero tableSound untimely taken isFree isWith isReference isCode isToken rec slots records sized stated numbersSound bytesSound usedSound noToken someToken recordSound sameGrant holds meets ownApart headSound sound pushed consented redeemed free first scopeFits fresh pushChecks pushRecord pushAt doPush decideChecks consentRecord consentAt declineAt decideAt doDecide tokenChecks tokenRecord tokenAt doToken resourceChecks look doResource step K added compress hashValue joined sha256 pad blocks T1 round rounds next words schedule Σ0 Σ1 σ0 σ1 letter characters base64url matches sweptRecord sweptTo swept due freedOf freed sweepChecks doSweep
 computed =
     record {
       accepted = λ (k : Kind). elim k [ pushes ↦ refl | decides ↦ refl | redeems ↦ refl | reads ↦ refl | sweeps ↦ refl ];

@@ -1,4 +1,4 @@
--- Laws by which the code's order of checks 3 and 4 gives their definitions. Assumes nothing.
+-- Laws by which the code's order of checks 3 and 4 gives their definitions.
 use Prim.Native.Nat.{ℕ, _<_, _≤_}
 use native.Mathlib.Omega.{arith}
 use mathlib.Core.Path.{_≡_, refl, ap, _∙_}

@@ -1,4 +1,4 @@
--- Laws of the client records in table order, and of the loops over them. Assumes nothing.
+-- Laws of the client records in table order, and of the loops over them.
 use Prim.Native.Nat.{ℕ, suc, _+_, _-_, _*_, _<_, _≤_}
 use native.Mathlib.Omega.{arith}
 use mathlib.Core.Path.{_≡_, sym, ap, _∙_}
@@ -9,12 +9,12 @@ use lib.Seq.{take-take}
 use Rattle.octets.specs.Lists.{every, some, place, apart}
 use Rattle.octets.specs.Numbers.{num}
 use Rattle.octets.specs.Parts.{part}
+use Rattle.octets.specs.Spans.{Span, field}
 use Rattle.octets.proofs.Lists.{every-at, every-of, every-hit, every-miss, some-hit, some-miss, place-hit, place-miss, apart-hit, apart-miss}
-use Rattle.octets.proofs.Numbers.{num-none}
 use Rattle.octets.proofs.Parts.{part-length}
 use Rattle.octets.proofs.Tabulate.{length-tabulate, getD-tabulate}
 use Rattle.clients.specs.Limits.{clientSize}
-use Rattle.clients.specs.Fields.{clients, client, entries, id, permitted}
+use Rattle.clients.specs.Fields.{clients, client, entries, idSpan, id, permittedSpan, permitted}
 
 pub length-entries : (t : List ℕ) → length (entries t) ≡ clients t
 unfolding entries
@@ -30,17 +30,18 @@ unfolding client
 client-length t k h = part-length t (clientSize * k) clientSize (omega arith)
 
 -- so each field inside it has its width
-pub field-length : (t : List ℕ) (k : ℕ) → k < clients t → (a n : ℕ) → a + n ≤ clientSize → length (part (client t k) a n) ≡ n
-field-length t k h a n w = part-length (client t k) a n (rw (client-length t k h) w)
+pub field-length : (t : List ℕ) (k : ℕ) → k < clients t → (s : Span) → s .place + s .width ≤ clientSize → length (field s (client t k)) ≡ s .width
+field-length t k h s w = part-length (client t k) (s .place) (s .width) (rw (client-length t k h) w)
 
 -- the id begins its record, so that it can be read off the table
-pub id-stands : (t : List ℕ) (k : ℕ) → part t (clientSize * k) (clientSize * k + 16 - clientSize * k) ≡ id (client t k)
+pub id-stands : (t : List ℕ) (k : ℕ) → part t (clientSize * k) (clientSize * k + idSpan .width - clientSize * k) ≡ id (client t k)
 unfolding client
 id-stands t k =
-    let e : clientSize * k + 16 - clientSize * k ≡ 16 = omega arith in
-    rw e (sym (take-take 16 clientSize (drop (clientSize * k) t) (omega arith)))
+    let n = idSpan .width in
+    let e : clientSize * k + n - clientSize * k ≡ n = omega arith in
+    rw e (sym (take-take n clientSize (drop (clientSize * k) t) (omega arith)))
 
--- past the last record there are no bytes, and nothing is permitted
+-- past the last record there are no bytes
 pub client-none : (t : List ℕ) (k : ℕ) → clients t < k → client t k ≡ []
 unfolding client
 client-none t k h = let p : length t ≤ clientSize * k = omega arith in rw (drop-of-length-le t p)
@@ -50,12 +51,11 @@ client-past t k h =
     let w : length t ≤ length t = omega arith in
     rw (drop-of-length-le t w) (sym (client-none t k h))
 
-pub permitted-past : (t : List ℕ) (k : ℕ) → clients t < k → permitted (client t k) ≡ 0
-permitted-past t k h = rw (client-none t k h) (num-none [])
-
 -- the number of the permitted bits, read off the bytes cut out for it
-pub permitted-read : (c s : List ℕ) → s ≡ part c 48 4 → num (take 4 s) ≡ permitted c
-permitted-read c s e = ap (λ (x : List ℕ). num (take 4 x)) e ∙ ap num (take-take 4 4 (drop 48 c) (omega arith))
+pub permitted-read : (c s : List ℕ) → s ≡ field permittedSpan c → num (take (permittedSpan .width) s) ≡ permitted c
+permitted-read c s e =
+    let n = permittedSpan .width in
+    ap (λ (x : List ℕ). num (take n x)) e ∙ ap num (take-take n n (drop (permittedSpan .place) c) (omega arith))
 
 -- ---- a test of all records
 

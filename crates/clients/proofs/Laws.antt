@@ -1,8 +1,8 @@
--- What the definitions of the client table say of its records, in both directions. Assumes nothing.
+-- What the definitions of the client table say of its records, in both directions.
 use Prim.Native.Nat.{ℕ, _*_, _<_, _≤_}
 use native.Mathlib.Omega.{arith}
 use mathlib.Core.Path.{_≡_, refl, sym, ap, _∙_}
-use mathlib.Core.Logic.{_≢_, _⊎_, inl, inr}
+use mathlib.Core.Logic.{_≢_, _↔_, _⊎_, inl, inr}
 use mathlib.Core.Bool.{Bool, true, false}
 use mathlib.Core.List.{List, []}
 use lib.Dec.{eqb, leb, ltb}
@@ -12,27 +12,17 @@ use Rattle.octets.specs.Lists.{some}
 use Rattle.octets.specs.Parts.{blank, zeros}
 use Rattle.octets.proofs.Lists.{place-lt, place-ok, place-first, place-is, none-inside, apart-inside, apart-of-inside}
 use Rattle.octets.proofs.Parts.{zeros-eq, zeros-blank, same-eq, same-of, differ-is, differ-of, given-is, given-of}
-use Rattle.octets.proofs.Tests.{both, both-true, false-of}
-use Rattle.clients.specs.Limits.{leastClients, mostClients, clientSize}
-use Rattle.clients.specs.Fields.{clients, client, entries, id, authKey, rest}
-use Rattle.clients.specs.Sound.{lengthRight, idGiven, idsGiven, keyGiven, keysGiven, sameId, idsDistinct, restZero, restsZero, sound, soundIf, checkTable}
+use Rattle.octets.proofs.Tests.{both, both-true}
+use Rattle.clients.specs.Limits.{clientsLeast, clientsMost, clientSize}
+use Rattle.clients.specs.Fields.{clients, client, entries, idSpan, id, authKeySpan, authKey, restSpan}
+use Rattle.clients.specs.Sound.{lengthRight, idGiven, idsGiven, keyGiven, keysGiven, sameId, idsDistinct, restZero, restsZero, sound}
+use Rattle.clients.specs.Plain.{SoundTable}
 use Rattle.clients.specs.Known.{hasId, hasKey, placeOf, atIf, isKnown, known}
-use Rattle.clients.specs.declared.table.Table.the-variants.{Sound, Unsound}
 use Rattle.clients.specs.declared.known.Known.the-variants.{At, Unknown}
 use Rattle.clients.proofs.Entries.{length-entries, entry-at, field-length, at-each, of-each}
-use Rattle.clients.proofs.Checks.{id-nowhere, id-somewhere, no-such-id, key-differs, key-agrees}
+use Rattle.clients.proofs.Checks.{id-nowhere, id-somewhere, key-agrees}
 
 -- ---- check 3
-
--- what a sound table is: each rule of document 01, of all its records
-pub record IsSound (t : List ℕ) : Type 0 where
-  pub whole : length t ≡ clientSize * clients t
-  pub least : leastClients ≤ clients t
-  pub most : clients t ≤ mostClients
-  pub ids : (k : ℕ) → k < clients t → id (client t k) ≢ blank 16
-  pub keys : (k : ℕ) → k < clients t → authKey (client t k) ≢ blank 32
-  pub distinct : (i j : ℕ) → i < clients t → j < clients t → id (client t i) ≡ id (client t j) → i ≡ j
-  pub rests : (k : ℕ) → k < clients t → rest (client t k) ≡ blank 12
 
 -- any two places have different ids
 pub distinct-of : (t : List ℕ) → ((i j : ℕ) → i < clients t → j < clients t → id (client t i) ≡ id (client t j) → i ≡ j) → idsDistinct t ≡ true
@@ -58,12 +48,12 @@ distinct-is t e i j a b s = by (ltb i j) refl (ltb j i) refl
     by false x false y = omega (arith, ltb-false i j x, ltb-false j i y)
 
 module _ (t : List ℕ) where
-  pub of-sound : sound t ≡ true → IsSound t
+  pub of-sound : sound t ≡ true → SoundTable t
   unfolding sound lengthRight idsGiven idGiven keysGiven keyGiven restsZero restZero
   of-sound e =
       let r = both (lengthRight t) _ e in
       let w = both (eqb (length t) (clientSize * clients t)) _ (r .0) in
-      let n = both (leb leastClients (clients t)) _ (w .1) in
+      let n = both (leb clientsLeast (clients t)) _ (w .1) in
       let i = both (idsGiven t) _ (r .1) in
       let k = both (keysGiven t) _ (i .1) in
       let d = both (idsDistinct t) _ (k .1) in
@@ -71,43 +61,26 @@ module _ (t : List ℕ) where
         whole = eqb-true _ _ (w .0);
         least = leb-true _ _ (n .0);
         most = leb-true _ _ (n .1);
-        ids = λ j h. given-is _ 16 (at-each t idGiven (i .0) j h);
-        keys = λ j h. given-is _ 32 (at-each t keyGiven (k .0) j h);
+        ids = λ j h. given-is _ (idSpan .width) (at-each t idGiven (i .0) j h);
+        keys = λ j h. given-is _ (authKeySpan .width) (at-each t keyGiven (k .0) j h);
         distinct = distinct-is t (d .0);
-        rests = λ j h. zeros-eq _ (at-each t restZero (d .1) j h) ∙ ap blank (field-length t j h 52 12 (omega arith));
+        rests = λ j h. zeros-eq _ (at-each t restZero (d .1) j h) ∙ ap blank (field-length t j h restSpan (omega arith));
       }
 
-  pub to-sound : IsSound t → sound t ≡ true
+  pub to-sound : SoundTable t → sound t ≡ true
   unfolding sound lengthRight idsGiven idGiven keysGiven keyGiven restsZero restZero
   to-sound s =
       let w = eq-eqb (length t) (clientSize * clients t) (s .whole) in
-      let l = le-leb leastClients (clients t) (s .least) in
-      let m = le-leb (clients t) mostClients (s .most) in
-      let i = of-each t idGiven (λ k h. given-of _ 16 (field-length t k h 0 16 (omega arith)) (s .ids k h)) in
-      let k = of-each t keyGiven (λ k h. given-of _ 32 (field-length t k h 16 32 (omega arith)) (s .keys k h)) in
+      let l = le-leb clientsLeast (clients t) (s .least) in
+      let m = le-leb (clients t) clientsMost (s .most) in
+      let i = of-each t idGiven (λ k h. given-of _ (idSpan .width) (field-length t k h idSpan (omega arith)) (s .ids k h)) in
+      let k = of-each t keyGiven (λ k h. given-of _ (authKeySpan .width) (field-length t k h authKeySpan (omega arith)) (s .keys k h)) in
       let d = distinct-of t (s .distinct) in
-      let r = of-each t restZero (λ k h. ap zeros (s .rests k h) ∙ zeros-blank 12) in
+      let r = of-each t restZero (λ k h. ap zeros (s .rests k h) ∙ zeros-blank (restSpan .width)) in
       both-true _ _ (both-true _ _ w (both-true _ _ l m)) (both-true _ _ i (both-true _ _ k (both-true _ _ d r)))
 
-  -- what check 3 answers
-  pub of-check : checkTable t ≡ Sound → sound t ≡ true
-  unfolding checkTable
-  of-check e = by (sound t) e
-    where
-      by : (b : Bool) → soundIf b ≡ Sound → b ≡ true
-      by true e = refl
-      by false e = let z : _≡_ {A = ℕ} 0 1 = cc in absurd (omega arith)
-
-  pub to-check : sound t ≡ true → checkTable t ≡ Sound
-  unfolding checkTable
-  to-check e = rw e
-
-  pub of-refused : checkTable t ≡ Unsound → sound t ≡ false
-  of-refused e = false-of _ (λ s. let z : Sound ≡ Unsound = sym (to-check s) ∙ e in let y : _≡_ {A = ℕ} 0 1 = cc in absurd (omega arith))
-
-  pub to-refused : sound t ≡ false → checkTable t ≡ Unsound
-  unfolding checkTable
-  to-refused e = rw e
+  pub table-says : (sound t ≡ true) ↔ SoundTable t
+  table-says = (of-sound, to-sound)
 
 -- ---- check 4
 
@@ -181,14 +154,3 @@ module _ (t v key : List ℕ) where
       by true p =
           let f = first-of t v (ltb-true _ _ p) in
           inr (placeOf t v, f, λ k. let z : At (placeOf t v) ≡ Unknown = sym (at-known (placeOf t v) f k) ∙ e in let y : _≡_ {A = ℕ} 0 1 = cc in absurd (omega arith))
-
-  pub no-id-unknown : ((j : ℕ) → j < clients t → id (client t j) ≢ v) → known t v key ≡ Unknown
-  no-id-unknown f = by (ltb (placeOf t v) (clients t)) refl
-    where
-      by : (b : Bool) → ltb (placeOf t v) (clients t) ≡ b → known t v key ≡ Unknown
-      by false p = no-such-id t v key (ltb-false _ _ p)
-      by true p = let g = first-of t v (ltb-true _ _ p) in absurd (f _ (g .inside) (g .has))
-
-  pub other-key-unknown : (k : ℕ) → First t v k → authKey (client t k) ≢ key → known t v key ≡ Unknown
-  unfolding hasKey
-  other-key-unknown k f n = key-differs t v key (rw (first-is t v k f) (differ-of _ _ n))

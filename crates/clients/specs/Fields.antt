@@ -5,6 +5,7 @@ use lib.ListN.{length}
 use Rattle.octets.specs.Lists.{tabulate}
 use Rattle.octets.specs.Numbers.{num}
 use Rattle.octets.specs.Parts.{part}
+use Rattle.octets.specs.Spans.{Span, span, field}
 use Rattle.clients.specs.Limits.{clientSize}
 
 -- how many whole records a table has
@@ -20,17 +21,29 @@ unfoldable pub entries : List ℕ → List (List ℕ)
 entries t = tabulate (client t) (clients t)
 
 -- "Bytes 0..16 client id"
+abbrev pub idSpan : Span
+idSpan = span 0 16
+
 abbrev pub id : List ℕ → List ℕ
-id c = part c 0 16
+id c = field idSpan c
 
 -- "16..48 thumbprint of the authentication key"
+abbrev pub authKeySpan : Span
+authKeySpan = span 16 48
+
 abbrev pub authKey : List ℕ → List ℕ
-authKey c = part c 16 32
+authKey c = field authKeySpan c
 
 -- "48..52 permitted scope bits"
+abbrev pub permittedSpan : Span
+permittedSpan = span 48 52
+
 abbrev pub permitted : List ℕ → ℕ
-permitted c = num (part c 48 4)
+permitted c = num (field permittedSpan c)
 
 -- "52..64 zero"
+abbrev pub restSpan : Span
+restSpan = span 52 64
+
 abbrev pub rest : List ℕ → List ℕ
-rest c = part c 52 12
+rest c = field restSpan c

@@ -3,3 +3,4 @@ pub mod Limits
 pub mod Fields
 pub mod Sound
 pub mod Known
+pub mod Plain

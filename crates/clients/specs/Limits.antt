@@ -2,11 +2,11 @@
 use Prim.Native.Nat.{ℕ}
 
 -- "1 to 64 records"
-abbrev pub leastClients : ℕ
-leastClients = 1
+abbrev pub clientsLeast : ℕ
+clientsLeast = 1
 
-abbrev pub mostClients : ℕ
-mostClients = 64
+abbrev pub clientsMost : ℕ
+clientsMost = 64
 
 -- "of 64 bytes"
 abbrev pub clientSize : ℕ

@@ -6,14 +6,14 @@ use lib.Dec.{eqb, leb}
 use lib.ListN.{length}
 use Rattle.octets.specs.Lists.{every, apart}
 use Rattle.octets.specs.Parts.{zeros, same}
-use Rattle.clients.specs.Limits.{leastClients, mostClients, clientSize}
+use Rattle.clients.specs.Limits.{clientsLeast, clientsMost, clientSize}
 use Rattle.clients.specs.Fields.{clients, entries, id, authKey, rest}
 use Rattle.clients.specs.declared.table.Table.{Table}
 use Rattle.clients.specs.declared.table.Table.the-variants.{Sound, Unsound}
 
 -- "1 to 64 records of 64 bytes"; "Sound: length right"
 unfoldable pub lengthRight : List ℕ → Bool
-lengthRight t = eqb (length t) (clientSize * clients t) && (leb leastClients (clients t) && leb (clients t) mostClients)
+lengthRight t = eqb (length t) (clientSize * clients t) && (leb clientsLeast (clients t) && leb (clients t) clientsMost)
 
 -- "no id .. all zeros", of one record and of all
 unfoldable pub idGiven : List ℕ → Bool

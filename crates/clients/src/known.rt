@@ -14,13 +14,13 @@ pub enum Known {
 fn has_id(c: &[u8], id: &[u8; 16]) -> bool
     ensures { λ r. ⌜ r ≡ hasId (now (id .entry)) (now (c .entry)) ⌝ }
 {
-    same(cut(c, Field::ID, Field::ID_SIZE), id)
+    same(cut(c, Field::ID, Field::ID_WIDTH), id)
 }
 
 fn has_key(c: &[u8], key: &[u8; 32]) -> bool
     ensures { λ r. ⌜ r ≡ hasKey (now (key .entry)) (now (c .entry)) ⌝ }
 {
-    same(cut(c, Field::AUTH_KEY, Field::AUTH_KEY_SIZE), key)
+    same(cut(c, Field::AUTH_KEY, Field::AUTH_KEY_WIDTH), key)
 }
 
 // The first record with this id, the number of records if there is none.

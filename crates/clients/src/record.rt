@@ -23,19 +23,19 @@ pub struct Field {}
 impl Field {
     pub const ID: usize = 0;
 
-    pub const ID_SIZE: usize = 16;
+    pub const ID_WIDTH: usize = 16;
 
     pub const AUTH_KEY: usize = 16;
 
-    pub const AUTH_KEY_SIZE: usize = 32;
+    pub const AUTH_KEY_WIDTH: usize = 32;
 
     pub const PERMITTED: usize = 48;
 
-    pub const PERMITTED_SIZE: usize = 4;
+    pub const PERMITTED_WIDTH: usize = 4;
 
     pub const REST: usize = 52;
 
-    pub const REST_SIZE: usize = 12;
+    pub const REST_WIDTH: usize = 12;
 }
 
 // How many whole records the table has.
@@ -59,5 +59,9 @@ pub fn client_at(table: &[u8], k: usize) -> &[u8]
 pub fn permitted(table: &[u8], k: usize) -> u32
     ensures { λ r. ⌜ r ≡ permitted (client (now (table .entry)) k) ⌝ }
 {
-    read32(cut(client_at(table, k), Field::PERMITTED, Field::PERMITTED_SIZE))
+    read32(cut(
+        client_at(table, k),
+        Field::PERMITTED,
+        Field::PERMITTED_WIDTH,
+    ))
 }

@@ -1,7 +1,7 @@
 // Check 3: whether the client table is sound.
 ghost use mathlib.Core.Path.{_≡_};
 ghost use Rattle.octets.specs.Lists.{every};
-ghost use Rattle.clients.specs.Limits.{leastClients, mostClients};
+ghost use Rattle.clients.specs.Limits.{clientsLeast, clientsMost};
 ghost use Prim.Native.Nat.{_<_};
 ghost use Rattle.clients.specs.Fields.{clients, client, entries, id};
 ghost use Rattle.clients.specs.Sound.{lengthRight, soundRecord, idsDistinct, checkTable};
@@ -23,13 +23,13 @@ impl Table {
     pub const MOST: usize = 64;
 
     pub fn least() -> usize
-        ensures { λ r. ⌜ r ≡ leastClients ⌝ }
+        ensures { λ r. ⌜ r ≡ clientsLeast ⌝ }
     {
         Table::LEAST
     }
 
     pub fn most() -> usize
-        ensures { λ r. ⌜ r ≡ mostClients ⌝ }
+        ensures { λ r. ⌜ r ≡ clientsMost ⌝ }
     {
         Table::MOST
     }
@@ -51,13 +51,13 @@ fn length_right(table: &[u8]) -> bool
 fn sound_record(c: &[u8]) -> bool
     ensures { λ r. ⌜ r ≡ soundRecord (now (c .entry)) ⌝ }
 {
-    if is_zero(cut(c, Field::ID, Field::ID_SIZE)) {
+    if is_zero(cut(c, Field::ID, Field::ID_WIDTH)) {
         return false;
     }
-    if is_zero(cut(c, Field::AUTH_KEY, Field::AUTH_KEY_SIZE)) {
+    if is_zero(cut(c, Field::AUTH_KEY, Field::AUTH_KEY_WIDTH)) {
         return false;
     }
-    is_zero(cut(c, Field::REST, Field::REST_SIZE))
+    is_zero(cut(c, Field::REST, Field::REST_WIDTH))
 }
 
 fn sound_records(table: &[u8]) -> bool
@@ -80,7 +80,7 @@ fn id_at(table: &[u8], k: usize) -> &[u8]
     ensures { λ r. ⌜ now r ≡ id (client (now (table .entry)) k) ⌝ }
 {
     let a = Client::SIZE * k;
-    &table[a..a + Field::ID_SIZE]
+    &table[a..a + Field::ID_WIDTH]
 }
 
 // Each pair of records is looked at, up to the first clash.

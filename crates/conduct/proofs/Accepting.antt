@@ -1,6 +1,5 @@
 -- Each call answers 0 exactly when the conditions of specs/Accepted hold. Assumes nothing.
 use Prim.Native.Nat.{ℕ}
-use native.Mathlib.Omega.{arith}
 use mathlib.Core.Path.{_≡_, refl, sym, ap, _∙_}
 use mathlib.Core.Logic.{_↔_}
 use mathlib.Core.Bool.{Bool, true, false, _&&_, true≢false}
@@ -12,16 +11,19 @@ use Rattle.octets.specs.Lists.{place}
 use Rattle.octets.specs.Parts.{same}
 use Rattle.octets.proofs.Tests.{both, both-true}
 use Rattle.octets.proofs.Parts.{same-eq, same-of}
+use Rattle.octets.proofs.Bytes.{nonzero-says}
 use Rattle.forms.specs.Forms.{redirectFormed, challengeFormed}
+use Rattle.forms.proofs.Laws.{redirect-says, challenge-says, verifier-says}
 use Rattle.s256.specs.Rule.{matches}
 use Rattle.ledger.specs.Limits.{lastNumber}
-use Rattle.ledger.specs.Fields.{nextNumber, rec, slots, records, inState, scope, holder, challenge, boundKey}
+use Rattle.ledger.specs.Fields.{nextNumber, rec, records, inState, scope, holder, challenge, boundKey}
 use Rattle.ledger.specs.Checks.{isFree, isReference, isCode, isToken, expired, taken}
 use Rattle.ledger.specs.declared.state.State.the-variants.{Redeemed}
-use Rattle.upkeep.proofs.Says.{sized-says}
-use Rattle.upkeep.proofs.Searches.{some-in, first-in, reference-first, code-first, token-first, free-says, reference-says, token-says}
+use Rattle.upkeep.proofs.Plain.{size-says, ledger-says}
+use Rattle.upkeep.proofs.Searches.{some-in, first-in, reference-first, code-first, token-first}
 use Rattle.clients.specs.Fields.{permitted, client as entry}
 use Rattle.clients.specs.Known.{placeOf}
+use Rattle.clients.proofs.Laws.{table-says}
 use Rattle.desk.specs.Limits.{outputLeast}
 use Rattle.desk.specs.Answers.{done}
 use Rattle.desk.specs.Checks.{scopeFits}
@@ -32,25 +34,16 @@ use Rattle.desk.specs.Token.{codeAt, token}
 use Rattle.desk.specs.Resource.{tokenPlace, resource}
 use Rattle.desk.specs.Sweep.{sweep}
 use Rattle.desk.specs.Start.{start}
-use Rattle.conduct.specs.Accepted.{FreshValue, StartAccepted, PushAccepted, DecideAccepted, TokenAccepted, ResourceAccepted, SweepAccepted}
+use Rattle.conduct.specs.Conditions.{FreshValue}
+use Rattle.conduct.specs.Accepted.{StartAccepted, PushAccepted, DecideAccepted, TokenAccepted, ResourceAccepted, SweepAccepted}
 use Rattle.conduct.proofs.Rows.{push-passed, decide-passed, token-passed, resource-passed, sweep-passed, start-passed}
 use Rattle.conduct.proofs.Facts.{PushFacts, push-facts, facts-push, DecideFacts, decide-facts, facts-decide, TokenFacts, token-facts, facts-token, ResourceFacts, resource-facts, facts-resource, sweep-facts, facts-sweep}
-use Rattle.conduct.proofs.Readings.{time-says, known-is, is-known, redirect-says, challenge-says, verifier-says, scope-says, fresh-says, alive-says, code-waits, waits-code, place-named}
+use Rattle.conduct.proofs.Readings.{time-says, known-is, is-known, scope-says, fresh-says, alive-says, match-says, place-named, free-stands, reference-stands, code-stands, token-stands}
 
 -- ---- start
 
-pub start-accepted : (l : List ℕ) → ((start l) .number ≡ done) ↔ StartAccepted l
-unfolding slots
-start-accepted l = (
-  λ e.
-      let (a, (b, c)) = sized-says l .0 (start-passed l .0 e) in
-      record { n = slots l; least = omega arith; most = omega arith; long = c },
-  λ w.
-      let least = w .least in
-      let most = w .most in
-      let long = w .long in
-      start-passed l .1 (sized-says l .1 (omega arith, (omega arith, omega arith))),
-)
+pub start-accepted : (l : List ℕ) → ((start l) .answer ≡ done) ↔ StartAccepted l
+start-accepted l = (λ e. size-says l .0 (start-passed l .0 e), λ w. start-passed l .1 (size-says l .1 w))
 
 -- ---- push
 
@@ -60,9 +53,9 @@ module _ (l : List ℕ) (t : ℕ) (table : List ℕ) (p : PushRequest) where
       let (a, b) = both (redirectFormed (p .redirect)) (challengeFormed (p .challenge)) (f .formed) in
       let r = first-in isFree l (f .room) in
       record {
-        ledger-sound = f .ledger-sound;
+        ledger-sound = ledger-says l .0 (f .ledger-sound);
         in-time = time-says l t .0 (f .in-time);
-        table-sound = f .table-sound;
+        table-sound = table-says table .0 (f .table-sound);
         asker = placeOf table (p .client);
         known = known-is table (p .client) (p .key) (f .known);
         redirect-well = redirect-says (p .redirect) .0 a;
@@ -70,24 +63,23 @@ module _ (l : List ℕ) (t : ℕ) (table : List ℕ) (p : PushRequest) where
         scope-permitted = scope-says (p .scope) _ .0 (f .fits);
         fresh-new = fresh-says l (p .fresh) .0 (f .new);
         room = place isFree (records l);
-        room-inside = r .inside;
-        room-free = free-says (rec l (place isFree (records l))) .0 (r .passes);
+        room-free = free-stands l (place isFree (records l)) .0 r;
         number-left = eqb-false (nextNumber l) lastNumber (f .numbers-left);
       }
 
   says-push : PushAccepted l t table p → PushFacts l t table p
   says-push w =
-      let (a, b) = is-known table (p .client) (p .key) (w .asker) (w .table-sound) (w .known) in
+      let (a, b) = is-known table (p .client) (p .key) (w .asker) (table-says table .1 (w .table-sound)) (w .known) in
       record {
-        ledger-sound = w .ledger-sound;
+        ledger-sound = ledger-says l .1 (w .ledger-sound);
         in-time = time-says l t .1 (w .in-time);
-        table-sound = w .table-sound;
+        table-sound = table-says table .1 (w .table-sound);
         known = a;
         formed = both-true (redirectFormed (p .redirect)) (challengeFormed (p .challenge)) (redirect-says (p .redirect) .1 (w .redirect-well))
             (challenge-says (p .challenge) .1 (w .challenge-well));
         fits = ap (λ (k : ℕ). scopeFits (p .scope) (permitted (entry table k))) b ∙ scope-says (p .scope) _ .1 (w .scope-permitted);
         new = fresh-says l (p .fresh) .1 (w .fresh-new);
-        room = some-in isFree l (w .room) (w .room-inside) (free-says (rec l (w .room)) .1 (w .room-free));
+        room = some-in isFree l (w .room) (w .room-free .inside) (free-stands l (w .room) .1 (w .room-free) .passes);
         numbers-left = ne-eqb (nextNumber l) lastNumber (w .number-left);
       }
 
@@ -108,16 +100,12 @@ module _ (l : List ℕ) (t : ℕ) (d : DecideRequest) (out : List ℕ) where
   decide-says : DecideFacts l t d out → DecideAccepted l t d out
   decide-says f =
       let r = first-in (isReference (d .reference) (d .client)) l (f .there) in
-      let (a, (b, c)) = reference-says (d .reference) (d .client) (rec l (referenceAt l d)) .0 (r .passes) in
       record {
-        ledger-sound = f .ledger-sound;
+        ledger-sound = ledger-says l .0 (f .ledger-sound);
         in-time = time-says l t .0 (f .in-time);
         output-room = ltb-false (length out) outputLeast (f .output-long);
         k = referenceAt l d;
-        inside = r .inside;
-        is-pushed = a;
-        reference-is = b;
-        client-is = c;
+        waits = reference-stands l (d .reference) (d .client) (referenceAt l d) (r .inside) .0 (r .passes);
         alive = alive-says t (rec l (referenceAt l d)) .0 (f .alive);
         holder-given = eqb-false (d .holder) 0 (f .holder-set);
         fresh-new = yes-new (d .yes) .0 (f .new);
@@ -125,13 +113,13 @@ module _ (l : List ℕ) (t : ℕ) (d : DecideRequest) (out : List ℕ) where
 
   says-decide : DecideAccepted l t d out → DecideFacts l t d out
   says-decide w =
-      let e = reference-says (d .reference) (d .client) (rec l (w .k)) .1 (w .is-pushed, (w .reference-is, w .client-is)) in
-      let at = place-named (isReference (d .reference) (d .client)) l (w .k) (reference-first l (w .ledger-sound) (d .reference) (d .client) (w .k) (w .inside) e) in
+      let e = reference-stands l (d .reference) (d .client) (w .k) (w .waits .inside) .1 (w .waits) in
+      let at = place-named (isReference (d .reference) (d .client)) l (w .k) (reference-first l (ledger-says l .1 (w .ledger-sound)) (d .reference) (d .client) (w .k) (w .waits .inside) e) in
       record {
-        ledger-sound = w .ledger-sound;
+        ledger-sound = ledger-says l .1 (w .ledger-sound);
         in-time = time-says l t .1 (w .in-time);
         output-long = le-ltb (length out) outputLeast (w .output-room);
-        there = some-in (isReference (d .reference) (d .client)) l (w .k) (w .inside) e;
+        there = some-in (isReference (d .reference) (d .client)) l (w .k) (w .waits .inside) e;
         alive = ap (λ (k : ℕ). expired t (rec l k)) at ∙ alive-says t (rec l (w .k)) .1 (w .alive);
         holder-set = ne-eqb (d .holder) 0 (w .holder-given);
         new = yes-new (d .yes) .1 (w .fresh-new);
@@ -149,41 +137,37 @@ module _ (l : List ℕ) (t : ℕ) (table : List ℕ) (q : TokenRequest) where
   redeem-says : TokenFacts l t table q → TokenAccepted l t table q
   redeem-says f =
       let r = first-in (isCode (q .code) (q .client)) l (f .there) in
-      let (a, (b, c)) = code-waits (q .code) (q .client) (rec l (codeAt l q)) (r .passes) (f .unredeemed) in
       record {
-        ledger-sound = f .ledger-sound;
+        ledger-sound = ledger-says l .0 (f .ledger-sound);
         in-time = time-says l t .0 (f .in-time);
-        table-sound = f .table-sound;
+        table-sound = table-says table .0 (f .table-sound);
         asker = placeOf table (q .client);
         known = known-is table (q .client) (q .key) (f .known);
-        key-presented = f .key-set;
+        key-presented = nonzero-says (q .presented) .0 (f .key-set);
         verifier-well = verifier-says (q .verifier) .0 (f .formed);
         k = codeAt l q;
-        inside = r .inside;
-        is-consented = a;
-        code-is = b;
-        client-is = c;
+        waits = code-stands l (q .code) (q .client) (codeAt l q) (r .inside) .0 (r .passes, f .unredeemed);
         alive = alive-says t (rec l (codeAt l q)) .0 (f .alive);
-        verified = f .verified;
+        verified = match-says (q .verifier) (challenge (rec l (codeAt l q))) .0 (f .verified);
         fresh-new = fresh-says l (q .fresh) .0 (f .new);
       }
 
   says-redeem : TokenAccepted l t table q → TokenFacts l t table q
   says-redeem w =
-      let (a, b) = is-known table (q .client) (q .key) (w .asker) (w .table-sound) (w .known) in
-      let (e, n) = waits-code (q .code) (q .client) (rec l (w .k)) (w .is-consented) (w .code-is) (w .client-is) in
-      let at = place-named (isCode (q .code) (q .client)) l (w .k) (code-first l (w .ledger-sound) (q .code) (q .client) (w .k) (w .inside) e) in
+      let (a, b) = is-known table (q .client) (q .key) (w .asker) (table-says table .1 (w .table-sound)) (w .known) in
+      let (e, n) = code-stands l (q .code) (q .client) (w .k) (w .waits .inside) .1 (w .waits) in
+      let at = place-named (isCode (q .code) (q .client)) l (w .k) (code-first l (ledger-says l .1 (w .ledger-sound)) (q .code) (q .client) (w .k) (w .waits .inside) e) in
       record {
-        ledger-sound = w .ledger-sound;
+        ledger-sound = ledger-says l .1 (w .ledger-sound);
         in-time = time-says l t .1 (w .in-time);
-        table-sound = w .table-sound;
+        table-sound = table-says table .1 (w .table-sound);
         known = a;
-        key-set = w .key-presented;
+        key-set = nonzero-says (q .presented) .1 (w .key-presented);
         formed = verifier-says (q .verifier) .1 (w .verifier-well);
-        there = some-in (isCode (q .code) (q .client)) l (w .k) (w .inside) e;
+        there = some-in (isCode (q .code) (q .client)) l (w .k) (w .waits .inside) e;
         unredeemed = ap (λ (k : ℕ). inState Redeemed (rec l k)) at ∙ n;
         alive = ap (λ (k : ℕ). expired t (rec l k)) at ∙ alive-says t (rec l (w .k)) .1 (w .alive);
-        verified = ap (λ (k : ℕ). matches (q .verifier) (challenge (rec l k))) at ∙ w .verified;
+        verified = ap (λ (k : ℕ). matches (q .verifier) (challenge (rec l k))) at ∙ match-says (q .verifier) (challenge (rec l (w .k))) .1 (w .verified);
         new = fresh-says l (q .fresh) .1 (w .fresh-new);
       }
 
@@ -200,14 +184,11 @@ module _ (l : List ℕ) (t : ℕ) (q : ResourceRequest) where
   resource-says f =
       let r = first-in (isToken (q .token)) l (f .there) in
       let k = tokenPlace l q in
-      let (a, b) = token-says (q .token) (rec l k) .0 (r .passes) in
       record {
-        ledger-sound = f .ledger-sound;
+        ledger-sound = ledger-says l .0 (f .ledger-sound);
         in-time = time-says l t .0 (f .in-time);
         k = k;
-        inside = r .inside;
-        is-redeemed = a;
-        token-is = b;
+        issued = token-stands l (q .token) k (r .inside) .0 (r .passes);
         alive = alive-says t (rec l k) .0 (f .alive);
         key-is = same-eq (boundKey (rec l k)) (q .presented) (f .key-bound);
         scope-granted = scope-says (q .scope) (scope (rec l k)) .0 (f .fits);
@@ -216,12 +197,12 @@ module _ (l : List ℕ) (t : ℕ) (q : ResourceRequest) where
 
   says-resource : ResourceAccepted l t q → ResourceFacts l t q
   says-resource w =
-      let e = token-says (q .token) (rec l (w .k)) .1 (w .is-redeemed, w .token-is) in
-      let at = place-named (isToken (q .token)) l (w .k) (token-first l (w .ledger-sound) (q .token) (w .k) (w .inside) e) in
+      let e = token-stands l (q .token) (w .k) (w .issued .inside) .1 (w .issued) in
+      let at = place-named (isToken (q .token)) l (w .k) (token-first l (ledger-says l .1 (w .ledger-sound)) (q .token) (w .k) (w .issued .inside) e) in
       record {
-        ledger-sound = w .ledger-sound;
+        ledger-sound = ledger-says l .1 (w .ledger-sound);
         in-time = time-says l t .1 (w .in-time);
-        there = some-in (isToken (q .token)) l (w .k) (w .inside) e;
+        there = some-in (isToken (q .token)) l (w .k) (w .issued .inside) e;
         alive = ap (λ (k : ℕ). expired t (rec l k)) at ∙ alive-says t (rec l (w .k)) .1 (w .alive);
         key-bound = ap (λ (k : ℕ). same (boundKey (rec l k)) (q .presented)) at ∙ same-of (boundKey (rec l (w .k))) (q .presented) (w .key-is);
         fits = ap (λ (k : ℕ). scopeFits (q .scope) (scope (rec l k))) at ∙ scope-says (q .scope) (scope (rec l (w .k))) .1 (w .scope-granted);
@@ -241,6 +222,6 @@ module _ (l : List ℕ) (t : ℕ) where
   sweep-accepted = (
     λ e.
         let f = sweep-facts l t (sweep-passed l t .0 e) in
-        record { ledger-sound = f .ledger-sound; in-time = time-says l t .0 (f .in-time) },
-    λ w. sweep-passed l t .1 (facts-sweep l t (record { ledger-sound = w .ledger-sound; in-time = time-says l t .1 (w .in-time) })),
+        record { ledger-sound = ledger-says l .0 (f .ledger-sound); in-time = time-says l t .0 (f .in-time) },
+    λ w. sweep-passed l t .1 (facts-sweep l t (record { ledger-sound = ledger-says l .1 (w .ledger-sound); in-time = time-says l t .1 (w .in-time) })),
   )

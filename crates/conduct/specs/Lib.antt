@@ -1,2 +1,3 @@
 -- Acceptance in plain words.
+pub mod Conditions
 pub mod Accepted

@@ -11,7 +11,8 @@ ghost use Rattle.ledger.specs.Checks.{taken};
 ghost use Rattle.ledger.specs.Write.{consented, free};
 ghost use Rattle.desk.specs.Answers.{answerOf, answerNo};
 ghost use Rattle.desk.specs.Told.{toldIf};
-ghost use Rattle.desk.specs.Decide.{leftBoth, decide, handedOut, consentAt, declineAt};
+ghost use Rattle.desk.specs.Outcome.{leftWith};
+ghost use Rattle.desk.specs.Decide.{decide, handedOut, consentAt, declineAt};
 use desk::answer::Answer;
 use desk::answer::Decided;
 use desk::answer::Refusal;
@@ -22,9 +23,9 @@ use ledger::clock::Timing;
 use ledger::clock::set_clock;
 use ledger::field::Field;
 use ledger::find::Found;
-use ledger::fresh::Freshness;
 use ledger::limit::Code;
 use ledger::limit::Ledger;
+use ledger::pool::Value;
 use ledger::record::Life;
 use ledger::record::check_life;
 use ledger::record::redirect_length;
@@ -65,7 +66,7 @@ fn check_fresh(ledger: &[u8], yes: bool, fresh: &[u8; 32]) -> Told
     if !yes {
         return Told::Passed;
     }
-    let Freshness::Fresh = ledger::fresh::check(ledger, fresh) else {
+    let Value::New = finding::pool::check(ledger, fresh) else {
         return Told::Failed;
     };
     Told::Passed
@@ -81,7 +82,7 @@ fn consent(
     out: &mut [u8],
 ) -> Decided
     requires { ⌜ (k < slots (now ledger)) × (time < clockLimit) ⌝ }
-    ensures { λ r. ⌜ leftBoth r (now (ledger .exit)) (now (out .exit)) ≡ consentAt (now (ledger .entry)) time holder (now (fresh .entry)) (now (out .entry)) k ⌝ }
+    ensures { λ r. ⌜ leftWith r (now (ledger .exit)) (now (out .exit)) ≡ consentAt (now (ledger .entry)) time holder (now (fresh .entry)) (now (out .entry)) k ⌝ }
 {
     let a = Ledger::HEAD + k * Ledger::RECORD;
     let length = redirect_length(&ledger[a..a + Ledger::RECORD]);
@@ -99,7 +100,7 @@ fn consent(
 // No: the same where the record is freed.
 fn refuse(ledger: &mut [u8], k: usize, time: u64, holder: u64, out: &mut [u8]) -> Decided
     requires { ⌜ k < slots (now ledger) ⌝ }
-    ensures { λ r. ⌜ leftBoth r (now (ledger .exit)) (now (out .exit)) ≡ declineAt (now (ledger .entry)) time holder (now (out .entry)) k ⌝ }
+    ensures { λ r. ⌜ leftWith r (now (ledger .exit)) (now (out .exit)) ≡ declineAt (now (ledger .entry)) time holder (now (out .entry)) k ⌝ }
 {
     let a = Ledger::HEAD + k * Ledger::RECORD;
     let length = redirect_length(&ledger[a..a + Ledger::RECORD]);
@@ -119,9 +120,9 @@ pub fn decide(
     fresh: &[u8; 32],
     out: &mut [u8],
 ) -> Decided
-    ensures { λ r. ⌜ leftBoth r (now (ledger .exit)) (now (out .exit)) ≡ decide (now (ledger .entry)) time (record { reference = now (reference .entry); client = now (client .entry); yes = yes; holder = holder; fresh = now (fresh .entry) }) (now (out .entry)) ⌝ }
+    ensures { λ r. ⌜ leftWith r (now (ledger .exit)) (now (out .exit)) ≡ decide (now (ledger .entry)) time (record { reference = now (reference .entry); client = now (client .entry); yes = yes; holder = holder; fresh = now (fresh .entry) }) (now (out .entry)) ⌝ }
 {
-    let Soundness::Sound(_) = soundness::check(ledger) else {
+    let Soundness::Sound = soundness::check(ledger) else {
         return Decided::refused(Refusal::LedgerUnsound);
     };
     let Timing::Timely = ledger::clock::check(ledger, time) else {
@@ -130,7 +131,7 @@ pub fn decide(
     let Told::Passed = check::room(out) else {
         return Decided::refused(Refusal::OutputShort);
     };
-    let Found::At(k) = ledger::find::reference(ledger, reference, client) else {
+    let Found::At(k) = finding::record::reference(ledger, reference, client) else {
         return Decided::refused(Refusal::NoReference);
     };
     let Life::Alive = check_life(ledger::record::at(ledger, k), time) else {

@@ -13,12 +13,11 @@ ghost use Rattle.desk.specs.Told.{toldIf, toldTexts, toldScope};
 use forms::Challenge;
 use forms::Form;
 use forms::Redirect;
-use ledger::field::Field;
 use ledger::limit::Grant;
+use ledger::record::bound_key;
 use ledger::record::holder;
-use ledger::record::state;
 use ledger::state::State;
-use octets::part::cut;
+use ledger::state::is_in;
 use octets::part::is_zero;
 use octets::part::same;
 
@@ -93,7 +92,7 @@ pub fn key(presented: &[u8; 32]) -> Told
 pub fn unredeemed(r: &[u8]) -> Told
     ensures { λ b. ⌜ b ≡ toldIf (inState Redeemed (now (r .entry))) ⌝ }
 {
-    if state(r) == State::Redeemed.number() {
+    if is_in(r, State::Redeemed) {
         return Told::Failed;
     }
     Told::Passed
@@ -103,7 +102,7 @@ pub fn unredeemed(r: &[u8]) -> Told
 pub fn bound(r: &[u8], presented: &[u8; 32]) -> Told
     ensures { λ b. ⌜ b ≡ toldIf (not (same (boundKey (now (r .entry))) (now (presented .entry)))) ⌝ }
 {
-    if same(cut(r, Field::KEY, 32), presented) {
+    if same(bound_key(r), presented) {
         return Told::Passed;
     }
     Told::Failed

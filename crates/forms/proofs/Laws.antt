@@ -14,6 +14,7 @@ use Rattle.octets.proofs.Tests.{both, both-true}
 use Rattle.octets.proofs.Parts.{same-eq, same-refl}
 use Rattle.forms.specs.Limits.{redirectLeast, redirectMost, redirectPrefix, challengeLength, verifierLeast, verifierMost}
 use Rattle.forms.specs.Forms.{between, visible, urlSafe, unreserved, begins, redirectFormed, challengeFormed, verifierFormed, formIf, redirectForm, challengeForm, verifierForm}
+use Rattle.forms.specs.Plain.{Visible, UrlSafe, Unreserved, RedirectWell, ChallengeWell, VerifierWell}
 use Rattle.forms.specs.declared.Form.the-variants.{Well, Ill}
 
 -- ---- what a test says, from what its parts say
@@ -46,18 +47,6 @@ begins-says p s = (same-eq (take (length p) s) p, λ e. rw e (same-refl p))
 
 -- ---- the classes
 
--- "0x21 to 0x7E"
-abbrev pub Visible : ℕ → Type 0
-Visible x = (0x21 ≤ x) × (x ≤ 0x7E)
-
--- "A-Z, a-z, 0-9, - and _"
-abbrev pub UrlSafe : ℕ → Type 0
-UrlSafe x = (((((0x41 ≤ x) × (x ≤ 0x5A)) ⊎ ((0x61 ≤ x) × (x ≤ 0x7A))) ⊎ ((0x30 ≤ x) × (x ≤ 0x39))) ⊎ (x ≡ 0x2D)) ⊎ (x ≡ 0x5F)
-
--- "those, with . and ~ too"
-abbrev pub Unreserved : ℕ → Type 0
-Unreserved x = (UrlSafe x ⊎ (x ≡ 0x2E)) ⊎ (x ≡ 0x7E)
-
 pub visible-says : (x : ℕ) → (visible x ≡ true) ↔ Visible x
 unfolding visible
 visible-says x = between-says 0x21 0x7E x
@@ -82,36 +71,44 @@ urlSafe-range x e =
 
 -- ---- the forms, for every byte
 
-pub redirect-says : (s : List ℕ)
-    → (redirectFormed s ≡ true)
-    ↔ (((redirectLeast ≤ length s) × (length s ≤ redirectMost)) × ((take (length redirectPrefix) s ≡ redirectPrefix) × ((i : ℕ) → i < length s → Visible (getD s i 0))))
+pub redirect-says : (s : List ℕ) → (redirectFormed s ≡ true) ↔ RedirectWell s
 unfolding redirectFormed
 redirect-says s =
-    and-says (between-says redirectLeast redirectMost (length s)) (and-says (begins-says redirectPrefix s) (every-says visible Visible visible-says s))
+    let (of, to) = and-says (between-says redirectLeast redirectMost (length s)) (and-says (begins-says redirectPrefix s) (every-says visible Visible visible-says s)) in (
+      λ e. let ((a, b), (c, d)) = of e in record { least = a; most = b; begins-so = c; each = d },
+      λ w. to ((w .least, w .most), (w .begins-so, w .each)),
+    )
 
-pub challenge-says : (s : List ℕ) → (challengeFormed s ≡ true) ↔ ((length s ≡ challengeLength) × ((i : ℕ) → i < length s → UrlSafe (getD s i 0)))
+pub challenge-says : (s : List ℕ) → (challengeFormed s ≡ true) ↔ ChallengeWell s
 unfolding challengeFormed
-challenge-says s = and-says (eqb-says (length s) challengeLength) (every-says urlSafe UrlSafe urlSafe-says s)
+challenge-says s =
+    let (of, to) = and-says (eqb-says (length s) challengeLength) (every-says urlSafe UrlSafe urlSafe-says s) in (
+      λ e. let (a, b) = of e in record { exact = a; each = b },
+      λ w. to (w .exact, w .each),
+    )
 
-pub verifier-says : (s : List ℕ)
-    → (verifierFormed s ≡ true) ↔ (((verifierLeast ≤ length s) × (length s ≤ verifierMost)) × ((i : ℕ) → i < length s → Unreserved (getD s i 0)))
+pub verifier-says : (s : List ℕ) → (verifierFormed s ≡ true) ↔ VerifierWell s
 unfolding verifierFormed
-verifier-says s = and-says (between-says verifierLeast verifierMost (length s)) (every-says unreserved Unreserved unreserved-says s)
+verifier-says s =
+    let (of, to) = and-says (between-says verifierLeast verifierMost (length s)) (every-says unreserved Unreserved unreserved-says s) in (
+      λ e. let ((a, b), c) = of e in record { least = a; most = b; each = c },
+      λ w. to ((w .least, w .most), w .each),
+    )
 
 -- no byte of a redirect is zero
 pub redirect-nonzero : (s : List ℕ) → redirectFormed s ≡ true → (i : ℕ) → i < length s → 0 < getD s i 0
-redirect-nonzero s e i h = omega (arith, redirect-says s .0 e .1 .1 i h)
+redirect-nonzero s e i h = omega (arith, redirect-says s .0 e .each i h)
 
 pub redirect-length : (s : List ℕ) → redirectFormed s ≡ true → (redirectLeast ≤ length s) × (length s ≤ redirectMost)
-redirect-length s e = redirect-says s .0 e .0
+redirect-length s e = let w = redirect-says s .0 e in (w .least, w .most)
 
 pub challenge-length : (s : List ℕ) → challengeFormed s ≡ true → length s ≡ challengeLength
-challenge-length s e = challenge-says s .0 e .0
+challenge-length s e = challenge-says s .0 e .exact
 
 -- the characters of a challenge are ASCII, and none is zero
 pub challenge-ascii : (s : List ℕ) → challengeFormed s ≡ true → (i : ℕ) → i < length s → (0 < getD s i 0) × (getD s i 0 < 128)
 challenge-ascii s e i h =
-    let r = urlSafe-range (getD s i 0) (urlSafe-says _ .1 (challenge-says s .0 e .1 i h)) in
+    let r = urlSafe-range (getD s i 0) (urlSafe-says _ .1 (challenge-says s .0 e .each i h)) in
     (omega arith, omega arith)
 
 -- ---- what a check's answer says

@@ -1,7 +1,7 @@
 -- The sizes of the line program. They stand here and in no other definition.
 use Prim.Native.Nat.{ℕ, _+_, _*_}
 use Rattle.ledger.specs.Limits.{headSize, recordSize, recordsMost}
-use Rattle.clients.specs.Limits.{clientSize, mostClients}
+use Rattle.clients.specs.Limits.{clientSize, clientsMost}
 use Rattle.desk.specs.Limits.{outputLeast}
 
 -- "more than 640 digits" is no frame
@@ -17,7 +17,7 @@ abbrev pub ledgerMost : ℕ
 ledgerMost = headSize + recordsMost * recordSize
 
 abbrev pub tableMost : ℕ
-tableMost = mostClients * clientSize
+tableMost = clientsMost * clientSize
 
 -- the longest answer, that of 02: "number(1) grant(8) holder(8) scope(4) expiry(8) .. length(1) and that many redirect bytes"
 abbrev pub answerMost : ℕ

@@ -1,55 +1,32 @@
--- Consents accepted are tokens issued, codes dropped and codes waiting, step by step. Assumes nothing.
+-- Consents accepted are tokens issued, codes dropped and codes waiting, step by step.
 use Prim.Native.Nat.{ℕ, _+_}
 use native.Mathlib.Omega.{arith}
 use mathlib.Core.Path.{_≡_, refl, ap}
-use mathlib.Core.Bool.{Bool, true, false, _&&_, and-true, and-false}
-use mathlib.Core.List.{List, [], _∷_, map}
+use mathlib.Core.Bool.{Bool, true, false, _&&_, and-true}
+use mathlib.Core.List.{List, [], _∷_, _++_, map}
 use lib.Dec.{eqb}
-use borrow.Author.Tests.{eqb-true}
 use Rattle.octets.specs.Lists.{bit, count}
-use Rattle.octets.proofs.Lists.{count-set}
+use Rattle.octets.proofs.Lists.{count-set, count-append}
 use Rattle.octets.proofs.Numbers.{Octets}
-use Rattle.ledger.specs.Fields.{nextNumber, records, rec, state, used, client, holder}
+use Rattle.ledger.specs.Fields.{nextNumber, records, rec, state, used, inState, client, holder}
 use Rattle.ledger.specs.Checks.{expired}
 use Rattle.ledger.specs.Write.{free}
 use Rattle.ledger.specs.Sweep.{sweptRecord}
 use Rattle.upkeep.proofs.Replaced.{free-state}
+use Rattle.ledger.specs.declared.state.State.the-variants.{Consented}
+use Rattle.desk.specs.Push.{pushAt}
 use Rattle.desk.specs.Decide.{referenceAt, consentAt, declineAt}
 use Rattle.desk.specs.Token.{codeAt, tokenAt}
 use Rattle.desk.specs.declared.answer.Refusal.{Refusal}
-use Rattle.history.specs.Runs.{Call, push, decide, token, resource, sweep, Typed, AllTyped, Step, step}
-use Rattle.history.specs.Counts.{Whose, isConsent, isIssue, waits, waiting, dropped, dropsIn, consents, tokens, drops}
+use Rattle.history.specs.Runs.{Call, push, decide, token, resource, sweep, Typed, Step, step}
+use Rattle.history.specs.Events.{EventKind, Consent, Token, Drop, SecondUse, Event, ofRecord, dropped, eventsOf, is}
+use Rattle.history.specs.Counts.{Whose, such, counted, consents, tokens, drops, waits, waiting}
 use Rattle.conduct.proofs.Turns.{Passed}
-use Rattle.history.proofs.Steps.{checksOf, refusal, acceptance, left, step-cases, decide-branch, refused-not}
+use Rattle.history.proofs.Steps.{checksOf, refusal, acceptance, left, step-cases, decide-branch}
+use Rattle.history.proofs.Events.{count-none, count-provided, dropped-none, standing, refused-none, consent-events, decline-events}
 use Rattle.conduct.proofs.Facts.{push-facts, decide-facts, token-facts, resource-facts, sweep-facts}
-use Rattle.history.proofs.Effects.{
-  Wrote,
-  Pushes,
-  pushPlace,
-  pushOne,
-  pushes,
-  Consents,
-  consentOne,
-  consents as consented,
-  Declines,
-  declines,
-  Redeems,
-  tokenOne,
-  redeems,
-  Ticks,
-  ticks,
-  Sweeps,
-  sweeps,
-}
-use Rattle.history.proofs.Trace.{run, trace, Good, good-run}
-
--- a record that is free was not dropped by standing still
-kept : (n : ℕ) (b : Bool) → bit ((eqb n 2 && b) && eqb n 0) ≡ 0
-kept n b = go (eqb n 0) refl
-  where
-    go : (z : Bool) → eqb n 0 ≡ z → bit ((eqb n 2 && b) && z) ≡ 0
-    go true p = let e : n ≡ 0 = eqb-true n 0 p in rw e
-    go false p = ap bit (and-false (eqb n 2 && b))
+use Rattle.history.proofs.Effects.{Wrote, pushPlace, pushOne, pushes, consentOne, consents as consented, declines, tokenOne, redeems, ticks, sweeps}
+use Rattle.history.proofs.Runs.{Good}
 
 -- one record replaced
 pub replaced : (q : List ℕ → Bool) (l : List ℕ) (t next k : ℕ) (s m : List ℕ) → Wrote l t next k s m
@@ -63,36 +40,35 @@ module _ (whose : Whose) where
   waits-in : (r : List ℕ) → state r ≡ 2 → bit (waits whose r) ≡ bit (whose (client r) (holder r))
   waits-in r e = rw e
 
-  dropped-same : (rs : List (List ℕ)) → dropped whose rs rs ≡ 0
-  dropped-same [] = refl
-  dropped-same (r ∷ rs) = omega (arith, kept (state r) (whose (client r) (holder r)), dropped-same rs)
-
-  dropped-swept : (t : ℕ) (rs : List (List ℕ))
-      → count (waits whose) rs ≡ dropped whose rs (map (sweptRecord t) rs) + count (waits whose) (map (sweptRecord t) rs)
+  -- the codes that a sweep drops, and those that it leaves
+  dropped-swept : (c : Call) (t : ℕ) (rs : List (List ℕ))
+      → count (waits whose) rs ≡ drops whose (dropped c rs (map (sweptRecord t) rs)) + count (waits whose) (map (sweptRecord t) rs)
   unfolding sweptRecord
-  dropped-swept t [] = refl
-  dropped-swept t (r ∷ rs) = go (used r && expired t r) refl (dropped-swept t rs)
+  dropped-swept c t [] = refl
+  dropped-swept c t (r ∷ rs) = go (used r && expired t r) refl (dropped-swept c t rs)
     where
       go : (b : Bool) → (used r && expired t r) ≡ b
-          → count (waits whose) rs ≡ dropped whose rs (map (sweptRecord t) rs) + count (waits whose) (map (sweptRecord t) rs)
-          → count (waits whose) (r ∷ rs) ≡ dropped whose (r ∷ rs) (map (sweptRecord t) (r ∷ rs)) + count (waits whose) (map (sweptRecord t) (r ∷ rs))
-      go true p ih = rw (p, free-state, and-true) (omega arith)
-      go false p ih = rw p (omega (arith, kept (state r) (whose (client r) (holder r))))
+          → count (waits whose) rs ≡ drops whose (dropped c rs (map (sweptRecord t) rs)) + count (waits whose) (map (sweptRecord t) rs)
+          → count (waits whose) (r ∷ rs) ≡ drops whose (dropped c (r ∷ rs) (map (sweptRecord t) (r ∷ rs))) + count (waits whose) (map (sweptRecord t) (r ∷ rs))
+      go true p ih = rw (p, free-state, and-true) (omega (arith, ih, count-provided (such whose Drop) (inState Consented r) (ofRecord Drop r c) (dropped c rs (map (sweptRecord t) rs))))
+      go false p ih = rw (p, standing r) (omega (arith, ih))
 
   abbrev Even : List ℕ → Step → Type 0
-  Even l s =
-      bit (isConsent whose (s .call) (s .answer)) + waiting whose l
-      ≡ bit (isIssue whose (s .call) (s .answer)) + dropsIn whose (s .call) (s .before) (s .after) + waiting whose (s .after)
+  Even l s = consents whose (eventsOf s) + waiting whose l ≡ tokens whose (eventsOf s) + drops whose (eventsOf s) + waiting whose (s .after)
+
+  -- no event of a refused step is counted, and of a sweep's none but the drops
+  uncounted : (k : EventKind) (l : List ℕ) (c : Call) (why : Refusal) → ((r : List ℕ) → is k (ofRecord SecondUse r c) ≡ false)
+      → counted whose k (eventsOf (refusal l c why)) ≡ 0
+  uncounted k l c why h = count-none (such whose k) (eventsOf (refusal l c why)) (refused-none (such whose k) l c why (λ r. rw (h r)))
+
+  undropped : (k : EventKind) (c : Call) (rs ss : List (List ℕ)) → ((r : List ℕ) → is k (ofRecord Drop r c) ≡ false) → counted whose k (dropped c rs ss) ≡ 0
+  undropped k c rs ss h = count-none (such whose k) (dropped c rs ss) (dropped-none (such whose k) c (λ r. rw (h r)) rs ss)
 
   even-refused : (l : List ℕ) (c : Call) (why : Refusal) → Even l (refusal l c why)
-  even-refused l (push t table p) why = omega arith
-  even-refused l (decide t d out) why = rw (refused-not why) (omega arith)
-  even-refused l (token t table q) why = rw (refused-not why) (omega arith)
-  even-refused l (resource t q) why = omega arith
-  even-refused l (sweep t) why = omega (arith, dropped-same (records l))
+  even-refused l c why = omega (arith, uncounted Consent l c why (λ r. refl), uncounted Token l c why (λ r. refl), uncounted Drop l c why (λ r. refl))
 
   even-done : (l : List ℕ) (c : Call) → Octets l → Typed c → Passed (checksOf l c) → Even l (acceptance l c)
-  unfolding consentAt declineAt tokenAt
+  unfolding pushAt consentAt declineAt tokenAt
   even-done l (push t table p) o y ok =
       let f = push-facts l t table p ok in
       let e = pushes l t table p o y f in
@@ -115,7 +91,9 @@ module _ (whose : Whose) where
         waits-out (rec l k) 1 (e .was) refl,
         waits-in s (e .state-is),
         w,
-        ap (λ (b : Bool). bit (b && whose (d .client) (d .holder))) yes,
+        ap (counted whose Consent) (consent-events l t d out yes),
+        ap (counted whose Token) (consent-events l t d out yes),
+        ap (counted whose Drop) (consent-events l t d out yes),
       ))
       (λ no.
       let e = declines l t d out y f in
@@ -126,7 +104,9 @@ module _ (whose : Whose) where
         replaced (waits whose) l t (nextNumber l) k free m (e .wrote),
         waits-out (rec l k) 1 (e .was) refl,
         waits-out free 0 free-state refl,
-        ap (λ (b : Bool). bit (b && whose (d .client) (d .holder))) no,
+        ap (counted whose Consent) (decline-events l t d out no),
+        ap (counted whose Token) (decline-events l t d out no),
+        ap (counted whose Drop) (decline-events l t d out no),
       ))
   even-done l (token t table q) o y ok =
       let f = token-facts l t table q ok in
@@ -146,14 +126,26 @@ module _ (whose : Whose) where
       omega (arith, ap (count (waits whose)) (ticks l t (f .ledger-sound) (f .in-time) .records-are))
   even-done l (sweep t) o y ok =
       let f = sweep-facts l t ok in
-      rw (sweeps l t (f .ledger-sound) (f .in-time) .records-are) (omega (arith, dropped-swept t (records l)))
+      let ss = map (sweptRecord t) (records l) in
+      rw (sweeps l t (f .ledger-sound) (f .in-time) .records-are)
+      (omega (
+        arith,
+        dropped-swept (sweep t) t (records l),
+        undropped Consent (sweep t) (records l) ss (λ r. refl),
+        undropped Token (sweep t) (records l) ss (λ r. refl),
+      ))
 
   pub even : (l : List ℕ) (c : Call) → Octets l → Typed c → Even l (step l c)
-  even l c o y = step-cases (Even l) l c (even-refused l c) (even-done l c o y)
+  even l c o y = step-cases (Even l) l c (λ why u. even-refused l c why) (even-done l c o y)
 
-  -- over a run, the latest call first
-  pub balanced : (l : List ℕ) (cs : List Call) → Good l → AllTyped cs → waiting whose l ≡ 0
-      → consents whose (trace l cs) ≡ tokens whose (trace l cs) + drops whose (trace l cs) + waiting whose (run l cs)
-  balanced l [] g y z = omega (arith, z)
-  balanced l (c ∷ cs) g y z =
-      omega (arith, balanced l cs g (y .1) z, even (run l cs) c (good-run l cs g (y .1) .bytes) (y .0))
+  -- the balance of a ledger with the events that led to it
+  abbrev pub Balanced : List ℕ → List Event → Type 0
+  Balanced l es = consents whose es ≡ tokens whose es + drops whose es + waiting whose l
+
+  abbrev more : (k : EventKind) (es fs : List Event) → counted whose k (es ++ fs) ≡ counted whose k es + counted whose k fs
+  more k es fs = count-append (such whose k) es fs
+
+  pub balanced-step : (l : List ℕ) (es : List Event) (c : Call) → Good l → Typed c → Balanced l es → Balanced (step l c .after) (es ++ eventsOf (step l c))
+  balanced-step l es c g y x =
+      let fs = eventsOf (step l c) in
+      omega (arith, x, even l c (g .bytes) y, more Consent es fs, more Token es fs, more Drop es fs)

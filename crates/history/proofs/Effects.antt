@@ -1,4 +1,4 @@
--- What each accepted call does to the records, the next number and the clock. Assumes nothing.
+-- What each accepted call does to the records, the next number and the clock.
 use Prim.Native.Nat.{ℕ, zero, suc, _+_, _≤_, _<_, _^_}
 use native.Mathlib.Omega.{arith}
 use mathlib.Core.Path.{_≡_, refl, sym, ap, _∙_}
@@ -45,7 +45,7 @@ use Rattle.ledger.specs.Write.{free}
 use Rattle.ledger.specs.Sweep.{swept, sweptRecord}
 use Rattle.ledger.specs.declared.state.State.the-variants.{Pushed, Consented, Redeemed}
 use Rattle.ledger.proofs.Records.{length-records, records-at, rec-length, length-with, records-with}
-use Rattle.upkeep.specs.View.{slotOf, pushedSlot, consentedSlot, redeemedSlot}
+use Rattle.upkeep.proofs.Slots.{slotOf, pushedSlot, consentedSlot, redeemedSlot}
 use Rattle.upkeep.proofs.Written.{Wrote as Leaves, pushed-wrote, consented-wrote, redeemed-wrote}
 use Rattle.ledger.proofs.Swept.{length-free, rec-swept, slots-swept}
 use Rattle.upkeep.proofs.Says.{neither, of-sound}
@@ -144,13 +144,13 @@ module _ (l : List ℕ) (t : ℕ) (table : List ℕ) (p : PushRequest) (o : Octe
   abbrev pub pushOne : List ℕ
   pushOne = pushRecord l t table p (rec l pushPlace)
 
-  push-found : First isFree l pushPlace
+  pub push-found : First isFree l pushPlace
   push-found = first-in isFree l (f .room)
 
   push-next : nextNumber l < lastNumber
   push-next = next-left l o (let a = sound-long l (f .ledger-sound) in omega arith) (eqb-false (nextNumber l) lastNumber (f .numbers-left))
 
-  push-after : Leaves (rec l pushPlace) pushOne (pushedSlot (p .scope) (nextNumber l) (t + referenceLifetime) (p .client) (p .challenge) (p .fresh) (p .redirect) (slotOf (rec l pushPlace)))
+  pub push-after : Leaves (rec l pushPlace) pushOne (pushedSlot (p .scope) (nextNumber l) (t + referenceLifetime) (p .client) (p .challenge) (p .fresh) (p .redirect) (slotOf (rec l pushPlace)))
   unfolding pushRecord
   push-after =
       let a = push-next in
@@ -200,14 +200,14 @@ module _ (l : List ℕ) (t : ℕ) (d : DecideRequest) (out : List ℕ) (y : Type
   abbrev decidePlace : ℕ
   decidePlace = referenceAt l d
 
-  decide-found : First (isReference (d .reference) (d .client)) l decidePlace
+  pub decide-found : First (isReference (d .reference) (d .client)) l decidePlace
   decide-found = first-in (isReference (d .reference) (d .client)) l (f .there)
 
   decide-was : state (rec l decidePlace) ≡ 1
   unfolding isReference
   decide-was = eqb-true (state (rec l decidePlace)) 1 (both (inState Pushed (rec l decidePlace)) _ (decide-found .passes) .0)
 
-  decide-by : client (rec l decidePlace) ≡ d .client
+  pub decide-by : client (rec l decidePlace) ≡ d .client
   unfolding isReference isWith
   decide-by =
       let a = both (inState Pushed (rec l decidePlace)) _ (decide-found .passes) .1 in
@@ -216,7 +216,7 @@ module _ (l : List ℕ) (t : ℕ) (d : DecideRequest) (out : List ℕ) (y : Type
   abbrev pub consentOne : List ℕ
   consentOne = consentRecord t (d .holder) (d .fresh) (rec l decidePlace)
 
-  consent-after : Leaves (rec l decidePlace) consentOne (consentedSlot (t + codeLifetime) (d .holder) (d .fresh) (slotOf (rec l decidePlace)))
+  pub consent-after : Leaves (rec l decidePlace) consentOne (consentedSlot (t + codeLifetime) (d .holder) (d .fresh) (slotOf (rec l decidePlace)))
   unfolding consentRecord
   consent-after =
       let b = time-below l t (f .in-time) in
@@ -280,7 +280,7 @@ module _ (l : List ℕ) (t : ℕ) (table : List ℕ) (q : TokenRequest) (y : Typ
   abbrev tokenAtPlace : ℕ
   tokenAtPlace = codeAt l q
 
-  token-found : First (isCode (q .code) (q .client)) l tokenAtPlace
+  pub token-found : First (isCode (q .code) (q .client)) l tokenAtPlace
   token-found = first-in (isCode (q .code) (q .client)) l (f .there)
 
   token-was : state (rec l tokenAtPlace) ≡ 2
@@ -298,7 +298,7 @@ module _ (l : List ℕ) (t : ℕ) (table : List ℕ) (q : TokenRequest) (y : Typ
   abbrev pub tokenOne : List ℕ
   tokenOne = tokenRecord t q (rec l tokenAtPlace)
 
-  token-after : Leaves (rec l tokenAtPlace) tokenOne (redeemedSlot (t + tokenLifetime) (q .fresh) (q .presented) (slotOf (rec l tokenAtPlace)))
+  pub token-after : Leaves (rec l tokenAtPlace) tokenOne (redeemedSlot (t + tokenLifetime) (q .fresh) (q .presented) (slotOf (rec l tokenAtPlace)))
   unfolding tokenRecord
   token-after =
       let b = time-below l t (f .in-time) in

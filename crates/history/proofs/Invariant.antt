@@ -1,4 +1,4 @@
--- The ties, the unborn numbers, the times and the lives are kept by every step of a run. Assumes nothing.
+-- The ties, the unborn numbers, the times and the lives are kept by every step of a run.
 use Prim.Native.Nat.{ℕ, _+_, _*_, _<_, _≤_}
 use native.Mathlib.Omega.{arith}
 use native.Mathlib.Nat.{le-refl}
@@ -6,7 +6,7 @@ use native.Mathlib.Decide.{decLt}
 use mathlib.Core.Path.{_≡_, refl, sym, ap, _∙_}
 use mathlib.Core.Logic.{_≢_}
 use mathlib.Core.Bool.{Bool, true, false, _&&_, cond}
-use mathlib.Core.List.{List, [], _∷_}
+use mathlib.Core.List.{List, [], _∷_, _++_}
 use lib.Dec.{eqb}
 use lib.ListN.{getD}
 use borrow.Author.Tests.{eq-eqb}
@@ -15,6 +15,7 @@ use Rattle.octets.proofs.Parts.{zeros-blank}
 use Rattle.octets.proofs.Bytes.{zeros-part, zeros-at}
 use Rattle.octets.proofs.Numbers.{Octets}
 use Rattle.ledger.specs.Fields.{nextNumber, rec, slots, records, state, used, scope, grant, expiry, holder, client, challenge}
+use Rattle.ledger.specs.Limits.{referenceLifetime, codeLifetime}
 use Rattle.ledger.specs.Checks.{expired}
 use Rattle.ledger.specs.Write.{free}
 use Rattle.ledger.specs.Sweep.{sweptRecord}
@@ -24,58 +25,46 @@ use Rattle.upkeep.proofs.Heads.{rec-next}
 use Rattle.desk.specs.Start.{fresh}
 use Rattle.desk.specs.Push.{pushAt}
 use Rattle.desk.specs.Requests.{PushRequest, DecideRequest, TokenRequest}
-use Rattle.desk.specs.Decide.{referenceAt, consentAt, declineAt, consentRecord}
 use Rattle.desk.specs.Token.{tokenAt}
-use Rattle.desk.specs.declared.answer.Refusal.{Refusal}
-use Rattle.history.specs.Runs.{Call, push, decide, token, resource, sweep, Typed, AllTyped, decided, Step, step, started}
-use Rattle.history.specs.Histories.{concerns, history, unborn, asked, redeemed}
-use Rattle.history.specs.Histories as histories
+use Rattle.history.specs.Runs.{Call, push, decide, token, resource, sweep, Typed, Step, step, started}
+use Rattle.history.specs.Events.{Push, Consent, No, Token, Event, event, eventsOf, listed}
+use Rattle.history.specs.Histories.{concerns, history, unborn, asked, decided, redeemed}
 use Rattle.conduct.proofs.Turns.{Passed}
-use Rattle.history.proofs.Steps.{checksOf, refusedBy, refusal, acceptance, left, step-cases, consenting, declining, deciding, decide-branch, refused-not}
 use Rattle.conduct.proofs.Facts.{push-facts, decide-facts, token-facts, resource-facts, sweep-facts}
+use Rattle.history.proofs.Steps.{checksOf, refusal, acceptance, left, step-cases, decide-branch}
+use Rattle.history.proofs.Events.{dropped-none, refused-none, consent-events, decline-events}
 use Rattle.history.proofs.Effects.{
   Wrote,
   Pushes,
-  pushPlace,
-  pushOne,
   pushes,
   Consents,
-  consentOne,
   consents,
   Declines,
   declines,
   Redeems,
-  tokenOne,
   redeems,
   since,
-  Ticks,
   ticks,
-  Sweeps,
   sweeps,
   getD-map,
   swept-none,
 }
-use Rattle.history.proofs.Trace.{run, trace, Good, good-run}
+use Rattle.history.proofs.Runs.{Good}
 use Rattle.history.proofs.Links.{
   at-none,
   grant-below,
   grants-apart,
   PushedBy,
   ConsentedBy,
-  RedeemedBy,
   TiedPushed,
   TiedConsented,
-  TiedRedeemed,
-  Linked,
   Tied,
   tied-free,
   history-in,
-  history-out,
   nowOf,
-  Upto,
   Inv,
   idle,
-  event,
+  entry,
 }
 
 -- ---- the record that a call writes to, if it was in use
@@ -123,16 +112,16 @@ consented-as id id′ bits bits′ text text′ who who′ h a b c d x =
 
 -- ---- push
 
-module _ (l : List ℕ) (t : ℕ) (table : List ℕ) (p : PushRequest) (k : ℕ) (r m : List ℕ) (tr : List Step) (s : Step) (e : Pushes l t p k r m) (inv : Inv l tr)
-    (is : s .call ≡ push t table p) (hears : (f : ℕ) → concerns f (s .call) (s .answer) ≡ eqb f (grant r)) where
-  push-first : history (grant r) (s ∷ tr) ≡ push t table p ∷ []
+module _ (l : List ℕ) (t : ℕ) (table : List ℕ) (p : PushRequest) (k : ℕ) (r m : List ℕ) (es : List Event) (e : Event) (x : Pushes l t p k r m) (inv : Inv l es)
+    (by : e .call ≡ push t table p) (hears : (f : ℕ) → concerns f e ≡ eqb f (grant r)) where
+  push-first : history (grant r) (es ++ (e ∷ [])) ≡ push t table p ∷ []
   push-first =
-      let g = e .grant-is in
-      history-in (grant r) s tr (hears (grant r) ∙ eq-eqb (grant r) (grant r) refl) ∙ rw (is, inv .unborn (grant r) (omega arith))
+      let g = x .grant-is in
+      history-in (grant r) es e (hears (grant r) ∙ eq-eqb (grant r) (grant r) refl) ∙ rw (by, inv .unborn (grant r) (omega arith))
 
-  push-tied : Tied (s ∷ tr) r
+  push-tied : Tied (es ++ (e ∷ [])) r
   push-tied =
-      let st = e .state-is in
+      let st = x .state-is in
       record {
         when-pushed = λ f.
             record {
@@ -141,32 +130,32 @@ module _ (l : List ℕ) (t : ℕ) (table : List ℕ) (p : PushRequest) (k : ℕ)
                 table = table;
                 p = p;
                 only = push-first;
-                by = sym (e .client-is);
-                asks = sym (e .scope-is);
-                commits = sym (e .challenge-is);
+                by = sym (x .client-is);
+                asks = sym (x .scope-is);
+                commits = sym (x .challenge-is);
               };
-              until = e .expiry-is;
+              until = x .expiry-is;
             };
         when-consented = λ f. absurd (omega arith);
         when-redeemed = λ f. absurd (omega arith);
       }
 
-  pub inv-push : Inv m (s ∷ tr)
+  pub inv-push : Inv m (es ++ (e ∷ []))
   inv-push =
-      let g = e .grant-is in
-      event l m tr s t (nextNumber l + 1) k r (nextNumber l) inv (e .wrote) (omega arith) (omega arith) (ap nowOf is)
+      let g = x .grant-is in
+      entry l m es e t (nextNumber l + 1) k r (nextNumber l) inv (x .wrote) (omega arith) (omega arith) (ap nowOf by)
       (λ f. hears f ∙ ap (eqb f) g)
-      (λ j ne u z. let b = grant-below l (e .wrote .is-sound) j u in absurd (omega arith))
+      (λ j ne u z. let b = grant-below l (x .wrote .is-sound) j u in absurd (omega arith))
       push-tied
-      (rw (is, inv .unborn (nextNumber l) (le-refl _)) (asked t table p refl))
+      (rw (by, inv .unborn (nextNumber l) (le-refl _)) (asked t table p refl))
 
 -- ---- decide
 
-module _ (l : List ℕ) (t : ℕ) (d : DecideRequest) (out : List ℕ) (k : ℕ) (tr : List Step) (s : Step) (inv : Inv l tr)
-    (is : s .call ≡ decide t d out) where
+module _ (l : List ℕ) (t : ℕ) (d : DecideRequest) (out : List ℕ) (k : ℕ) (es : List Event) (e : Event) (inv : Inv l es)
+    (by : e .call ≡ decide t d out) where
   module _ (r m : List ℕ) (w : Wrote l t (nextNumber l) k r m) (was : state (rec l k) ≡ 1) (alive : t < expiry (rec l k)) where
-    decide-old : TiedPushed (rec l k) (history (grant (rec l k)) tr)
-    decide-old = let x : Tied tr (rec l k) = rw (w .here) at (inv .tied k) in x .when-pushed was
+    decide-old : TiedPushed (rec l k) (history (grant (rec l k)) es)
+    decide-old = let x : Tied es (rec l k) = rw (w .here) at (inv .tied k) in x .when-pushed was
 
     decide-after : decide-old .was .t ≤ t
     decide-after =
@@ -175,26 +164,26 @@ module _ (l : List ℕ) (t : ℕ) (d : DecideRequest) (out : List ℕ) (k : ℕ)
         let b = (rw (x .was .only) at (inv .past (grant (rec l k)))) .0 in
         omega arith
 
-    decide-soon : t < decide-old .was .t + 599
+    decide-soon : t < decide-old .was .t + referenceLifetime
     decide-soon = let x = decide-old .until in omega (arith, alive)
 
-    inv-decide : ((f : ℕ) → concerns f (s .call) (s .answer) ≡ eqb f (grant (rec l k))) → Tied (s ∷ tr) r → Inv m (s ∷ tr)
+    inv-decide : ((f : ℕ) → concerns f e ≡ eqb f (grant (rec l k))) → Tied (es ++ (e ∷ [])) r → Inv m (es ++ (e ∷ []))
     inv-decide hears new =
         let x = decide-old in
-        event l m tr s t (nextNumber l) k r (grant (rec l k)) inv w (le-refl _) (spot-below l t _ k r m w (λ z. omega arith)) (ap nowOf is)
+        entry l m es e t (nextNumber l) k r (grant (rec l k)) inv w (le-refl _) (spot-below l t _ k r m w (λ z. omega arith)) (ap nowOf by)
         hears
         (spot-other l t _ k r m w (λ z. omega arith))
         new
-        (rw (is, x .was .only) (histories.decided (x .was .t) (x .was .table) (x .was .p) t d out refl (decide-after, decide-soon)))
+        (rw (by, x .was .only) (decided (x .was .t) (x .was .table) (x .was .p) t d out refl (decide-after, decide-soon)))
 
-  pub inv-decline : (m : List ℕ) → Declines l t d k m → ((f : ℕ) → concerns f (s .call) (s .answer) ≡ eqb f (grant (rec l k))) → Inv m (s ∷ tr)
-  inv-decline m e hears = inv-decide free m (e .wrote) (e .was) (e .alive) hears (tied-free (s ∷ tr) free free-state)
+  pub inv-decline : (m : List ℕ) → Declines l t d k m → ((f : ℕ) → concerns f e ≡ eqb f (grant (rec l k))) → Inv m (es ++ (e ∷ []))
+  inv-decline m x hears = inv-decide free m (x .wrote) (x .was) (x .alive) hears (tied-free (es ++ (e ∷ [])) free free-state)
 
-  pub inv-consent : (r m : List ℕ) → Consents l t d k r m → d .yes ≡ true → ((f : ℕ) → concerns f (s .call) (s .answer) ≡ eqb f (grant r)) → Inv m (s ∷ tr)
-  inv-consent r m e said hears =
-      let x = decide-old r m (e .wrote) (e .was) (e .alive) in
-      let st = e .state-is in
-      inv-decide r m (e .wrote) (e .was) (e .alive) (λ f. hears f ∙ ap (eqb f) (e .grant-is))
+  pub inv-consent : (r m : List ℕ) → Consents l t d k r m → d .yes ≡ true → ((f : ℕ) → concerns f e ≡ eqb f (grant r)) → Inv m (es ++ (e ∷ []))
+  inv-consent r m x said hears =
+      let o = decide-old r m (x .wrote) (x .was) (x .alive) in
+      let st = x .state-is in
+      inv-decide r m (x .wrote) (x .was) (x .alive) (λ f. hears f ∙ ap (eqb f) (x .grant-is))
       (record {
         when-pushed = λ f. absurd (omega arith);
         when-consented = λ f.
@@ -203,41 +192,48 @@ module _ (l : List ℕ) (t : ℕ) (d : DecideRequest) (out : List ℕ) (k : ℕ)
                 t = t;
                 d = d;
                 out = out;
-                earlier = history (grant (rec l k)) tr;
-                only = history-in (grant r) s tr (hears (grant r) ∙ eq-eqb (grant r) (grant r) refl)
-                    ∙ rw is (ap (λ (g : ℕ). decide t d out ∷ history g tr) (e .grant-is));
+                earlier = history (grant (rec l k)) es;
+                only = history-in (grant r) es e (hears (grant r) ∙ eq-eqb (grant r) (grant r) refl)
+                    ∙ rw by (ap (λ (g : ℕ). history g es ++ (decide t d out ∷ [])) (x .grant-is));
                 yes = said;
-                by = sym (e .by) ∙ sym (e .client-is);
-                given = sym (e .holder-is);
-                was = pushed-as (client (rec l k)) (client r) (scope (rec l k)) (scope r) (challenge (rec l k)) (challenge r) (history (grant (rec l k)) tr) (e .client-is) (e .scope-is) (e .challenge-is) (x .was);
-                after = decide-after r m (e .wrote) (e .was) (e .alive);
-                soon = decide-soon r m (e .wrote) (e .was) (e .alive);
+                by = sym (x .by) ∙ sym (x .client-is);
+                given = sym (x .holder-is);
+                was = pushed-as (client (rec l k)) (client r) (scope (rec l k)) (scope r) (challenge (rec l k)) (challenge r) (history (grant (rec l k)) es) (x .client-is) (x .scope-is) (x .challenge-is) (o .was);
+                after = decide-after r m (x .wrote) (x .was) (x .alive);
+                soon = decide-soon r m (x .wrote) (x .was) (x .alive);
               };
-              until = e .expiry-is;
+              until = x .expiry-is;
             };
         when-redeemed = λ f. absurd (omega arith);
       })
 
 -- ---- token
 
-module _ (l : List ℕ) (t : ℕ) (table : List ℕ) (q : TokenRequest) (k : ℕ) (r m : List ℕ) (tr : List Step) (s : Step) (e : Redeems l t q k r m) (inv : Inv l tr)
-    (is : s .call ≡ token t table q) (hears : (f : ℕ) → concerns f (s .call) (s .answer) ≡ eqb f (grant r)) where
-  token-old : TiedConsented (rec l k) (history (grant (rec l k)) tr)
-  token-old = let x : Tied tr (rec l k) = rw (e .wrote .here) at (inv .tied k) in x .when-consented (e .was)
+-- the calls of a consented record's history
+pub consented-calls : (id : List ℕ) (bits : ℕ) (text : List ℕ) (who : ℕ) (h : List Call) (x : ConsentedBy id bits text who h)
+    → h ≡ push (x .was .t) (x .was .table) (x .was .p) ∷ decide (x .t) (x .d) (x .out) ∷ []
+consented-calls id bits text who h x = x .only ∙ ap (λ (cs : List Call). cs ++ (decide (x .t) (x .d) (x .out) ∷ [])) (x .was .only)
+
+module _ (l : List ℕ) (t : ℕ) (table : List ℕ) (q : TokenRequest) (k : ℕ) (r m : List ℕ) (es : List Event) (e : Event) (x : Redeems l t q k r m) (inv : Inv l es)
+    (by : e .call ≡ token t table q) (hears : (f : ℕ) → concerns f e ≡ eqb f (grant r)) where
+  token-old : TiedConsented (rec l k) (history (grant (rec l k)) es)
+  token-old = let y : Tied es (rec l k) = rw (x .wrote .here) at (inv .tied k) in y .when-consented (x .was)
+
+  token-calls : history (grant (rec l k)) es ≡ push (token-old .was .was .t) (token-old .was .was .table) (token-old .was .was .p) ∷ decide (token-old .was .t) (token-old .was .d) (token-old .was .out) ∷ []
+  token-calls = consented-calls _ _ _ _ _ (token-old .was)
 
   token-after : token-old .was .t ≤ t
   token-after =
-      let x = token-old in
-      let c = e .wrote .onward in
-      let b = (rw (x .was .only) at (inv .past (grant (rec l k)))) .0 in
+      let c = x .wrote .onward in
+      let b = (rw token-calls at (inv .past (grant (rec l k)))) .1 .0 in
       omega arith
 
-  token-soon : t < token-old .was .t + 60
-  token-soon = let x = token-old .until in let b = e .alive in omega arith
+  token-soon : t < token-old .was .t + codeLifetime
+  token-soon = let y = token-old .until in let b = x .alive in omega arith
 
-  token-tied : Tied (s ∷ tr) r
+  token-tied : Tied (es ++ (e ∷ [])) r
   token-tied =
-      let st = e .state-is in
+      let st = x .state-is in
       record {
         when-pushed = λ f. absurd (omega arith);
         when-consented = λ f. absurd (omega arith);
@@ -247,87 +243,69 @@ module _ (l : List ℕ) (t : ℕ) (table : List ℕ) (q : TokenRequest) (k : ℕ
                 t = t;
                 table = table;
                 q = q;
-                earlier = history (grant (rec l k)) tr;
-                only = history-in (grant r) s tr (hears (grant r) ∙ eq-eqb (grant r) (grant r) refl)
-                    ∙ rw is (ap (λ (g : ℕ). token t table q ∷ history g tr) (e .grant-is));
-                by = sym (e .by) ∙ sym (e .client-is);
-                issued = sym (e .token-is);
-                bound = sym (e .key-is);
-                verified = rw (e .challenge-is) (e .verified);
-                was = consented-as (client (rec l k)) (client r) (scope (rec l k)) (scope r) (challenge (rec l k)) (challenge r) (holder (rec l k)) (holder r) (history (grant (rec l k)) tr) (e .client-is) (e .scope-is) (e .challenge-is) (e .holder-is) (token-old .was);
+                earlier = history (grant (rec l k)) es;
+                only = history-in (grant r) es e (hears (grant r) ∙ eq-eqb (grant r) (grant r) refl)
+                    ∙ rw by (ap (λ (g : ℕ). history g es ++ (token t table q ∷ [])) (x .grant-is));
+                by = sym (x .by) ∙ sym (x .client-is);
+                issued = sym (x .token-is);
+                bound = sym (x .key-is);
+                verified = rw (x .challenge-is) (x .verified);
+                was = consented-as (client (rec l k)) (client r) (scope (rec l k)) (scope r) (challenge (rec l k)) (challenge r) (holder (rec l k)) (holder r) (history (grant (rec l k)) es) (x .client-is) (x .scope-is) (x .challenge-is) (x .holder-is) (token-old .was);
               };
-              until = e .expiry-is;
+              until = x .expiry-is;
             };
       }
 
-  pub inv-token : Inv m (s ∷ tr)
+  pub inv-token : Inv m (es ++ (e ∷ []))
   inv-token =
-      let x = token-old .was in
-      let z = x .was in
-      let h : history (grant (rec l k)) tr ≡ decide (x .t) (x .d) (x .out) ∷ push (z .t) (z .table) (z .p) ∷ [] = x .only ∙ ap (λ (cs : List Call). decide (x .t) (x .d) (x .out) ∷ cs) (z .only) in
-      event l m tr s t (nextNumber l) k r (grant (rec l k)) inv (e .wrote) (le-refl _) (spot-below l t _ k r m (e .wrote) (λ y. omega (arith, e .was))) (ap nowOf is)
-      (λ f. hears f ∙ ap (eqb f) (e .grant-is))
-      (spot-other l t _ k r m (e .wrote) (λ y. omega (arith, e .was)))
+      let y = token-old .was in
+      let z = y .was in
+      entry l m es e t (nextNumber l) k r (grant (rec l k)) inv (x .wrote) (le-refl _) (spot-below l t _ k r m (x .wrote) (λ v. omega (arith, x .was))) (ap nowOf by)
+      (λ f. hears f ∙ ap (eqb f) (x .grant-is))
+      (spot-other l t _ k r m (x .wrote) (λ v. omega (arith, x .was)))
       token-tied
-      (rw (is, h) (redeemed (z .t) (z .table) (z .p) (x .t) (x .d) (x .out) t table q refl (x .yes) (x .after, x .soon) (token-after, token-soon)))
+      (rw (by, token-calls) (redeemed (z .t) (z .table) (z .p) (y .t) (y .d) (y .out) t table q refl (y .yes) (y .after, y .soon) (token-after, token-soon)))
 
 -- ---- sweep
 
-swept-tied : (t : ℕ) (tr : List Step) (r : List ℕ) → Tied tr r → Tied tr (sweptRecord t r)
+swept-tied : (t : ℕ) (es : List Event) (r : List ℕ) → Tied es r → Tied es (sweptRecord t r)
 unfolding sweptRecord
-swept-tied t tr r x = elim (used r && expired t r) as (λ (b : Bool). Tied tr (cond b free r)) [ true ↦ tied-free tr free free-state | false ↦ x ]
+swept-tied t es r x = elim (used r && expired t r) as (λ (b : Bool). Tied es (cond b free r)) [ true ↦ tied-free es free free-state | false ↦ x ]
 
 -- ---- every call
 
-consent-hears : (l : List ℕ) (t : ℕ) (d : DecideRequest) (out : List ℕ) (f : ℕ)
-    → concerns f (decide t d out) (deciding l t d out (consenting l t d out) .answer) ≡ eqb f (grant (consentRecord t (d .holder) (d .fresh) (rec l (referenceAt l d))))
-unfolding consentAt
-consent-hears l t d out f = refl
-
-decline-hears : (l : List ℕ) (t : ℕ) (d : DecideRequest) (out : List ℕ) (f : ℕ)
-    → concerns f (decide t d out) (deciding l t d out (declining l t d out) .answer) ≡ eqb f (grant (rec l (referenceAt l d)))
-unfolding declineAt
-decline-hears l t d out f = refl
-
-inv-done : (l : List ℕ) (c : Call) (tr : List Step) → Octets l → Typed c → Passed (checksOf l c) → Inv l tr → Inv (left l c) (acceptance l c ∷ tr)
+inv-done : (l : List ℕ) (c : Call) (es : List Event) → Octets l → Typed c → Passed (checksOf l c) → Inv l es → Inv (left l c) (es ++ eventsOf (acceptance l c))
 unfolding pushAt tokenAt
-inv-done l (push t table p) tr o y ok inv =
-    inv-push l t table p _ _ _ tr (acceptance l (push t table p)) (pushes l t table p o y (push-facts l t table p ok)) inv refl (λ f. refl)
-inv-done l (decide t d out) tr o y ok inv =
+inv-done l (push t table p) es o y ok inv =
+    inv-push l t table p _ _ _ es (event Push (p .client) _ _ (push t table p)) (pushes l t table p o y (push-facts l t table p ok)) inv refl (λ f. refl)
+inv-done l (decide t d out) es o y ok inv =
     let f = decide-facts l t d out ok in
-    decide-branch (λ (s : Step). Inv (s .after) (s ∷ tr)) l t d out
-    (λ e. inv-consent l t d out _ tr (deciding l t d out (consenting l t d out)) inv refl _ _ (consents l t d out y f) e (consent-hears l t d out))
-    (λ e. inv-decline l t d out _ tr (deciding l t d out (declining l t d out)) inv refl _ (declines l t d out y f) (decline-hears l t d out))
-inv-done l (token t table q) tr o y ok inv =
-    inv-token l t table q _ _ _ tr (acceptance l (token t table q)) (redeems l t table q y (token-facts l t table q ok)) inv refl (λ f. refl)
-inv-done l (resource t q) tr o y ok inv =
+    decide-branch (λ (s : Step). Inv (s .after) (es ++ eventsOf s)) l t d out
+    (λ e. rw (consent-events l t d out e) (inv-consent l t d out _ es (event Consent (d .client) (d .holder) _ (decide t d out)) inv refl _ _ (consents l t d out y f) e (λ g. refl)))
+    (λ e. rw (decline-events l t d out e) (inv-decline l t d out _ es (event No (d .client) (d .holder) _ (decide t d out)) inv refl _ (declines l t d out y f) (λ g. refl)))
+inv-done l (token t table q) es o y ok inv =
+    inv-token l t table q _ _ _ es (event Token (q .client) _ _ (token t table q)) (redeems l t table q y (token-facts l t table q ok)) inv refl (λ f. refl)
+inv-done l (resource t q) es o y ok inv =
     let f = resource-facts l t q ok in
     let k = ticks l t (f .ledger-sound) (f .in-time) in
     let c = since l t (f .in-time) in
     let d = k .clock-is in
-    idle l (left l (resource t q)) tr (acceptance l (resource t q)) (λ g. refl) (λ j. rw (k .records-are) (inv .tied j)) (k .next-is) (omega arith) inv
-inv-done l (sweep t) tr o y ok inv =
+    idle l (left l (resource t q)) es (eventsOf (acceptance l (resource t q))) (λ g. refl) (λ j. rw (k .records-are) (inv .tied j)) (k .next-is) (omega arith) inv
+inv-done l (sweep t) es o y ok inv =
     let f = sweep-facts l t ok in
     let k = sweeps l t (f .ledger-sound) (f .in-time) in
     let c = since l t (f .in-time) in
     let d = k .clock-is in
-    idle l (left l (sweep t)) tr (acceptance l (sweep t)) (λ g. refl)
-    (λ j. rw (k .records-are, getD-map (sweptRecord t) (swept-none t) (records l) j) (swept-tied t tr _ (inv .tied j))) (k .next-is) (omega arith) inv
+    idle l (left l (sweep t)) es (eventsOf (acceptance l (sweep t))) (λ g. dropped-none (concerns g) (sweep t) (λ r. refl) (records l) (records (left l (sweep t))))
+    (λ j. rw (k .records-are, getD-map (sweptRecord t) (swept-none t) (records l) j) (swept-tied t es _ (inv .tied j))) (k .next-is) (omega arith) inv
 
-silent : (why : Refusal) (c : Call) (g : ℕ) → concerns g c (refusedBy why c) ≡ false
-silent why (push t table p) g = rw (refused-not why)
-silent why (decide t d out) g = rw (refused-not why)
-silent why (token t table q) g = rw (refused-not why)
-silent why (resource t q) g = refl
-silent why (sweep t) g = refl
+pub inv-step : (l : List ℕ) (es : List Event) (c : Call) → Good l → Typed c → Inv l es → Inv (step l c .after) (es ++ eventsOf (step l c))
+inv-step l es c good y inv =
+    step-cases (λ (s : Step). Inv (s .after) (es ++ eventsOf s)) l c
+    (λ why u. idle l l es (eventsOf (refusal l c why)) (λ g. refused-none (concerns g) l c why (λ r. refl)) (inv .tied) refl (le-refl _) inv)
+    (λ ok. inv-done l c es (good .bytes) y ok inv)
 
-pub inv-step : (l : List ℕ) (c : Call) (tr : List Step) → Octets l → Typed c → Inv l tr → Inv (step l c .after) (step l c ∷ tr)
-inv-step l c tr o y inv =
-    step-cases (λ (s : Step). Inv (s .after) (s ∷ tr)) l c
-    (λ why. idle l l tr (refusal l c why) (silent why c) (inv .tied) refl (le-refl _) inv)
-    (λ ok. inv-done l c tr o y ok inv)
-
--- ---- from the start
+-- ---- at the start
 
 pub started-at : (n j : ℕ) → state (getD (records (started n)) j []) ≡ 0
 unfolding fresh rec
@@ -340,14 +318,12 @@ started-at n j = go (decLt j (slots (started n)))
     go (yes h) = ap state (records-at (started n) j h) ∙ zero-at
     go (no h) = ap state (at-none (started n) j (omega (arith, h)))
 
-pub inv-run : (n : ℕ) (cs : List Call) → Good (started n) → AllTyped cs → Inv (run (started n) cs) (trace (started n) cs)
-unfolding history
-inv-run n [] g y =
+pub inv-start : (n : ℕ) → Inv (started n) []
+unfolding listed
+inv-start n =
     record {
       tied = λ j. tied-free [] _ (started-at n j);
       unborn = λ g h. refl;
       past = λ g. tt;
       life = λ g. unborn refl;
     }
-inv-run n (c ∷ cs) g y =
-    inv-step (run (started n) cs) c (trace (started n) cs) (good-run (started n) cs g (y .1) .bytes) (y .0) (inv-run n cs g (y .1))

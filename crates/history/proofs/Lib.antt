@@ -1,11 +1,13 @@
 -- Demand 3, proved.
 pub mod Steps
+pub mod Events
 pub mod Effects
-pub mod Trace
+pub mod Runs
 pub mod Balance
+pub mod Numbers
 pub mod Links
 pub mod Invariant
 pub mod Readings
-pub mod Numbers
 pub mod Demand3
-pub mod Examples
+pub mod Begins
+pub mod Example

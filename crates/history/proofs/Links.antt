@@ -1,15 +1,16 @@
--- Each record in use is tied to the history of its grant number. Assumes nothing.
+-- Each record in use is tied to the history of its grant number.
 use Prim.Native.Nat.{ℕ, _+_, _<_, _≤_}
 use native.Mathlib.Omega.{arith}
 use native.Mathlib.Decide.{ℕ-discrete, decLt}
 use mathlib.Core.Path.{_≡_, refl, ap, _∙_}
 use mathlib.Core.Logic.{_≢_}
 use mathlib.Core.Bool.{true, false}
-use mathlib.Core.List.{List, [], _∷_, reverse}
+use mathlib.Core.List.{List, [], _∷_, _++_}
 use lib.Dec.{eqb}
 use lib.ListN.{getD, set, List·getD-eq-default}
 use lib.Seq.{getD-set-same, getD-set-other}
 use borrow.Author.Tests.{eq-eqb, ne-eqb}
+use Rattle.octets.specs.Lists.{some}
 use Rattle.s256.specs.Rule.{matches}
 use Rattle.ledger.specs.Limits.{referenceLifetime, codeLifetime, tokenLifetime}
 use Rattle.ledger.specs.Fields.{clock, nextNumber, slots, records, state, scope, grant, expiry, holder, client, challenge, token as tokenField, boundKey}
@@ -17,8 +18,10 @@ use Rattle.ledger.specs.Sound.{sound}
 use Rattle.ledger.proofs.Records.{length-records, records-at}
 use Rattle.upkeep.proofs.Says.{of-sound}
 use Rattle.desk.specs.Requests.{PushRequest, DecideRequest, TokenRequest}
-use Rattle.history.specs.Runs.{Call, push, decide, token, resource, sweep, Step}
+use Rattle.history.specs.Runs.{Call, push, decide, token, resource, sweep}
+use Rattle.history.specs.Events.{Event}
 use Rattle.history.specs.Histories.{concerns, history, Life}
+use Rattle.history.proofs.Events.{listed-in, listed-out}
 use Rattle.history.proofs.Effects.{Wrote}
 
 -- ---- the records by their places: behind the last one stands the empty list, which is in state 0
@@ -65,7 +68,7 @@ pub record ConsentedBy (id : List ℕ) (bits : ℕ) (text : List ℕ) (who : ℕ
   pub d : DecideRequest
   pub out : List ℕ
   pub earlier : List Call
-  pub only : h ≡ decide t d out ∷ earlier
+  pub only : h ≡ earlier ++ (decide t d out ∷ [])
   pub yes : d .yes ≡ true
   pub by : d .client ≡ id
   pub given : d .holder ≡ who
@@ -78,7 +81,7 @@ pub record RedeemedBy (id : List ℕ) (bits : ℕ) (text : List ℕ) (who : ℕ)
   pub table : List ℕ
   pub q : TokenRequest
   pub earlier : List Call
-  pub only : h ≡ token t table q ∷ earlier
+  pub only : h ≡ earlier ++ (token t table q ∷ [])
   pub by : q .client ≡ id
   pub issued : q .fresh ≡ shown
   pub bound : q .presented ≡ key
@@ -103,30 +106,28 @@ pub record Linked (r : List ℕ) (h : List Call) : Type 0 where
   pub when-consented : state r ≡ 2 → TiedConsented r h
   pub when-redeemed : state r ≡ 3 → TiedRedeemed r h
 
-abbrev pub Tied : List Step → List ℕ → Type 0
-Tied tr r = Linked r (history (grant r) tr)
+abbrev pub Tied : List Event → List ℕ → Type 0
+Tied es r = Linked r (history (grant r) es)
 
 -- a free record is tied to nothing
-pub tied-free : (tr : List Step) (r : List ℕ) → state r ≡ 0 → Tied tr r
-tied-free tr r e = record { when-pushed = λ f. absurd (omega arith); when-consented = λ f. absurd (omega arith); when-redeemed = λ f. absurd (omega arith) }
+pub tied-free : (es : List Event) (r : List ℕ) → state r ≡ 0 → Tied es r
+tied-free es r e = record { when-pushed = λ f. absurd (omega arith); when-consented = λ f. absurd (omega arith); when-redeemed = λ f. absurd (omega arith) }
 
--- ---- one step more
+-- ---- events are added
 
-pub history-in : (g : ℕ) (s : Step) (tr : List Step) → concerns g (s .call) (s .answer) ≡ true → history g (s ∷ tr) ≡ s .call ∷ history g tr
-unfolding history
-history-in g s tr e = rw e
+pub history-in : (g : ℕ) (es : List Event) (e : Event) → concerns g e ≡ true → history g (es ++ (e ∷ [])) ≡ history g es ++ (e .call ∷ [])
+history-in g es e p = listed-in (concerns g) (λ (v : Event). v .call) es e p
 
-pub history-out : (g : ℕ) (s : Step) (tr : List Step) → concerns g (s .call) (s .answer) ≡ false → history g (s ∷ tr) ≡ history g tr
-unfolding history
-history-out g s tr e = rw e
+pub history-out : (g : ℕ) (es fs : List Event) → some (concerns g) fs ≡ false → history g (es ++ fs) ≡ history g es
+history-out g es fs p = listed-out (concerns g) (λ (v : Event). v .call) es fs p
 
 -- a record keeps its tie as long as its history stands
-pub carry : (r : List ℕ) (s : Step) (tr : List Step) → (state r ≢ 0 → concerns (grant r) (s .call) (s .answer) ≡ false) → Tied tr r → Tied (s ∷ tr) r
-carry r s tr out k = go (ℕ-discrete (state r) 0)
+pub carry : (r : List ℕ) (es fs : List Event) → (state r ≢ 0 → some (concerns (grant r)) fs ≡ false) → Tied es r → Tied (es ++ fs) r
+carry r es fs out k = go (ℕ-discrete (state r) 0)
   where
-    go : Dec (state r ≡ 0) → Tied (s ∷ tr) r
-    go (yes e) = tied-free (s ∷ tr) r e
-    go (no n) = rw (history-out (grant r) s tr (out n)) k
+    go : Dec (state r ≡ 0) → Tied (es ++ fs) r
+    go (yes e) = tied-free (es ++ fs) r e
+    go (no n) = rw (history-out (grant r) es fs (out n)) k
 
 -- the time of a call
 abbrev pub nowOf : Call → ℕ
@@ -145,58 +146,61 @@ pub upto-later : (t u : ℕ) (h : List Call) → t ≤ u → Upto t h → Upto u
 upto-later t u [] b x = tt
 upto-later t u (c ∷ cs) b x = (omega arith, upto-later t u cs b (x .1))
 
+upto-more : (t : ℕ) (h : List Call) (c : Call) → nowOf c ≤ t → Upto t h → Upto t (h ++ (c ∷ []))
+upto-more t [] c b x = (b, tt)
+upto-more t (d ∷ h) c b x = (x .0, upto-more t h c b (x .1))
+
 -- ---- the invariant
 
-pub record Inv (l : List ℕ) (tr : List Step) : Type 0 where
-  pub tied : (j : ℕ) → Tied tr (getD (records l) j [])
-  pub unborn : (g : ℕ) → nextNumber l ≤ g → history g tr ≡ []
-  pub past : (g : ℕ) → Upto (clock l) (history g tr)
-  pub life : (g : ℕ) → Life (reverse (history g tr))
+pub record Inv (l : List ℕ) (es : List Event) : Type 0 where
+  pub tied : (j : ℕ) → Tied es (getD (records l) j [])
+  pub unborn : (g : ℕ) → nextNumber l ≤ g → history g es ≡ []
+  pub past : (g : ℕ) → Upto (clock l) (history g es)
+  pub life : (g : ℕ) → Life (history g es)
 
--- a step that no number's history holds, and that leaves each record as it was or free
-pub idle : (l m : List ℕ) (tr : List Step) (s : Step) → ((g : ℕ) → concerns g (s .call) (s .answer) ≡ false)
-    → ((j : ℕ) → Tied tr (getD (records m) j [])) → nextNumber m ≡ nextNumber l → clock l ≤ clock m → Inv l tr → Inv m (s ∷ tr)
-idle l m tr s out ties n c inv =
+-- events that no history holds, in a step that leaves each record as it was or free
+pub idle : (l m : List ℕ) (es fs : List Event) → ((g : ℕ) → some (concerns g) fs ≡ false)
+    → ((j : ℕ) → Tied es (getD (records m) j [])) → nextNumber m ≡ nextNumber l → clock l ≤ clock m → Inv l es → Inv m (es ++ fs)
+idle l m es fs out ties n c inv =
     record {
-      tied = λ j. carry (getD (records m) j []) s tr (λ u. out _) (ties j);
-      unborn = λ g b. history-out g s tr (out g) ∙ inv .unborn g (omega arith);
-      past = λ g. rw (history-out g s tr (out g)) (upto-later (clock l) (clock m) (history g tr) c (inv .past g));
-      life = λ g. rw (history-out g s tr (out g)) (inv .life g);
+      tied = λ j. carry (getD (records m) j []) es fs (λ u. out _) (ties j);
+      unborn = λ g b. history-out g es fs (out g) ∙ inv .unborn g (omega arith);
+      past = λ g. rw (history-out g es fs (out g)) (upto-later (clock l) (clock m) (history g es) c (inv .past g));
+      life = λ g. rw (history-out g es fs (out g)) (inv .life g);
     }
 
--- a step of the number g that leaves r at the place k
-pub event : (l m : List ℕ) (tr : List Step) (s : Step) (t next k : ℕ) (r : List ℕ) (g : ℕ)
-    → Inv l tr → Wrote l t next k r m → nextNumber l ≤ next → g < next → nowOf (s .call) ≡ t
-    → ((f : ℕ) → concerns f (s .call) (s .answer) ≡ eqb f g)
+-- one event of the number g, in a step that leaves r at the place k
+pub entry : (l m : List ℕ) (es : List Event) (e : Event) (t next k : ℕ) (r : List ℕ) (g : ℕ)
+    → Inv l es → Wrote l t next k r m → nextNumber l ≤ next → g < next → nowOf (e .call) ≡ t
+    → ((f : ℕ) → concerns f e ≡ eqb f g)
     → ((j : ℕ) → j ≢ k → state (getD (records l) j []) ≢ 0 → grant (getD (records l) j []) ≢ g)
-    → Tied (s ∷ tr) r
-    → Life (reverse (s .call ∷ history g tr))
-    → Inv m (s ∷ tr)
-event l m tr s t next k r g inv w n b now hears other new lives =
+    → Tied (es ++ (e ∷ [])) r
+    → Life (history g es ++ (e .call ∷ []))
+    → Inv m (es ++ (e ∷ []))
+entry l m es e t next k r g inv w n b now hears other new lives =
     record {
       tied = λ j. rw (w .records-are) (stored j (ℕ-discrete j k));
-      unborn = λ f h. let c = w .next-is in history-out f s tr (out f (λ e. omega arith)) ∙ inv .unborn f (omega arith);
+      unborn = λ f h. let c = w .next-is in history-out f es (e ∷ []) (out f (λ z. omega arith)) ∙ inv .unborn f (omega arith);
       past = λ f. rw (w .clock-is) (upto f (ℕ-discrete f g));
       life = λ f. alive f (ℕ-discrete f g);
     }
   where
-    out : (f : ℕ) → f ≢ g → concerns f (s .call) (s .answer) ≡ false
-    out f ne = hears f ∙ ne-eqb f g ne
+    out : (f : ℕ) → f ≢ g → some (concerns f) (e ∷ []) ≡ false
+    out f ne = rw (hears f ∙ ne-eqb f g ne)
 
-    into : concerns g (s .call) (s .answer) ≡ true
+    into : concerns g e ≡ true
     into = hears g ∙ eq-eqb g g refl
 
-    stored : (j : ℕ) → Dec (j ≡ k) → Tied (s ∷ tr) (getD (set (records l) k r) j [])
-    stored j (yes e) = rw (e, getD-set-same (records l) k r [] (w .inside)) new
+    stored : (j : ℕ) → Dec (j ≡ k) → Tied (es ++ (e ∷ [])) (getD (set (records l) k r) j [])
+    stored j (yes z) = rw (z, getD-set-same (records l) k r [] (w .inside)) new
     stored j (no ne) =
-        rw (getD-set-other (records l) k j r [] ne) (carry (getD (records l) j []) s tr (λ u. out _ (other j ne u)) (inv .tied j))
+        rw (getD-set-other (records l) k j r [] ne) (carry (getD (records l) j []) es (e ∷ []) (λ u. out _ (other j ne u)) (inv .tied j))
 
-    upto : (f : ℕ) → Dec (f ≡ g) → Upto t (history f (s ∷ tr))
-    upto f (yes e) =
-        let c = w .onward in
-        rw (e, history-in g s tr into) (omega arith, upto-later (clock l) t (history g tr) c (inv .past g))
-    upto f (no ne) = rw (history-out f s tr (out f ne)) (upto-later (clock l) t (history f tr) (w .onward) (inv .past f))
+    upto : (f : ℕ) → Dec (f ≡ g) → Upto t (history f (es ++ (e ∷ [])))
+    upto f (yes z) =
+        rw (z, history-in g es e into) (upto-more t (history g es) (e .call) (omega arith) (upto-later (clock l) t (history g es) (w .onward) (inv .past g)))
+    upto f (no ne) = rw (history-out f es (e ∷ []) (out f ne)) (upto-later (clock l) t (history f es) (w .onward) (inv .past f))
 
-    alive : (f : ℕ) → Dec (f ≡ g) → Life (reverse (history f (s ∷ tr)))
-    alive f (yes e) = rw (e, history-in g s tr into) lives
-    alive f (no ne) = rw (history-out f s tr (out f ne)) (inv .life f)
+    alive : (f : ℕ) → Dec (f ≡ g) → Life (history f (es ++ (e ∷ [])))
+    alive f (yes z) = rw (z, history-in g es e into) lives
+    alive f (no ne) = rw (history-out f es (e ∷ []) (out f ne)) (inv .life f)

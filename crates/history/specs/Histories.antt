@@ -1,8 +1,8 @@
 -- The history of a grant number, and what must stand behind a granted reading.
 use Prim.Native.Nat.{ℕ, _+_, _<_, _≤_}
 use mathlib.Core.Path.{_≡_}
-use mathlib.Core.Bool.{Bool, true, false, _&&_, cond}
-use mathlib.Core.List.{List, [], _∷_}
+use mathlib.Core.Bool.{Bool, true, false, _&&_}
+use mathlib.Core.List.{List, [], _∷_, _++_}
 use lib.Dec.{eqb}
 use Rattle.octets.specs.Lists.{some}
 use Rattle.octets.specs.Parts.{same}
@@ -10,43 +10,51 @@ use Rattle.s256.specs.Rule.{matches}
 use Rattle.ledger.specs.Limits.{referenceLifetime, codeLifetime, tokenLifetime}
 use Rattle.desk.specs.Checks.{within}
 use Rattle.desk.specs.Requests.{PushRequest, DecideRequest, TokenRequest, ResourceRequest}
-use Rattle.history.specs.Runs.{Call, push, decide, token, resource, sweep, Said, Step, accepted, grantOf}
+use Rattle.history.specs.Runs.{Call, push, decide, token, resource, sweep}
+use Rattle.history.specs.Events.{EventKind, Push, Consent, No, Token, Drop, SecondUse, Reading, Event, event, is, listed}
 
--- a call of the grant number: an accepted push, decide of either kind, or token call that answered it
-abbrev pub concerns : ℕ → Call → Said → Bool
-concerns g (push t table p) a = accepted a && eqb g (grantOf a)
-concerns g (decide t d out) a = accepted a && eqb g (grantOf a)
-concerns g (token t table q) a = accepted a && eqb g (grantOf a)
-concerns g (resource t q) a = false
-concerns g (sweep t) a = false
+-- pushes, consents, noes and tokens make the history of their grant number
+abbrev pub enters : EventKind → Bool
+enters Push = true
+enters Consent = true
+enters No = true
+enters Token = true
+enters Drop = false
+enters SecondUse = false
+enters Reading = false
 
--- the history of a grant number: those calls, in order
-unfoldable pub history : ℕ → List Step → List Call
-history g [] = []
-history g (s ∷ ss) = cond (concerns g (s .call) (s .answer)) (s .call ∷ history g ss) (history g ss)
+abbrev pub concerns : ℕ → Event → Bool
+concerns g e = enters (e .kind) && eqb g (e .grant)
 
--- the grant numbers that accepted pushes answered, in order
-abbrev pub isPush : Call → Said → Bool
-isPush (push t table p) a = accepted a
-isPush (decide t d out) a = false
-isPush (token t table q) a = false
-isPush (resource t q) a = false
-isPush (sweep t) a = false
+-- the history of a grant number: the calls of those events, in order
+abbrev pub history : ℕ → List Event → List Call
+history g es = listed (concerns g) (λ (e : Event). e .call) es
 
-unfoldable pub numbersOf : List Step → List ℕ
-numbersOf [] = []
-numbersOf (s ∷ ss) = cond (isPush (s .call) (s .answer)) (grantOf (s .answer) ∷ numbersOf ss) (numbersOf ss)
+-- the grant numbers of the pushes, in order
+abbrev pub numbersOf : List Event → List ℕ
+numbersOf es = listed (is Push) (λ (e : Event). e .grant) es
 
--- the value was issued as a token: the fresh value of an accepted token call
-abbrev pub isTokenOf : List ℕ → Call → Said → Bool
-isTokenOf v (push t table p) a = false
-isTokenOf v (decide t d out) a = false
-isTokenOf v (token t table q) a = accepted a && same (q .fresh) v
-isTokenOf v (resource t q) a = false
-isTokenOf v (sweep t) a = false
+-- the value was issued as a token: a token's call had it as fresh value
+abbrev pub asToken : List ℕ → Call → Bool
+asToken v (push t table p) = false
+asToken v (decide t d out) = false
+asToken v (token t table q) = same (q .fresh) v
+asToken v (resource t q) = false
+asToken v (sweep t) = false
 
-abbrev pub issued : List ℕ → List Step → Bool
-issued v tr = some (λ (s : Step). isTokenOf v (s .call) (s .answer)) tr
+abbrev pub issued : List ℕ → List Event → Bool
+issued v es = some (λ (e : Event). is Token e && asToken v (e .call)) es
+
+-- a granted reading among the events of a run: those before it, its time and request, the grant number that it names
+pub record Granted (es : List Event) : Type 0 where
+  pub before : List Event
+  pub client : List ℕ
+  pub holder : ℕ
+  pub grant : ℕ
+  pub time : ℕ
+  pub request : ResourceRequest
+  pub after : List Event
+  pub whole : es ≡ before ++ (event Reading client holder grant (resource time request) ∷ after)
 
 -- "a grant number whose history has exactly one push, one consent and one token, in that order", behind a reading at time t
 pub record Chain (t : ℕ) (q : ResourceRequest) (h : List Call) : Type 0 where

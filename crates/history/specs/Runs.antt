@@ -142,3 +142,7 @@ steps l (c ∷ cs) = step l c ∷ steps (step l c .after) cs
 abbrev pub last : List ℕ → List Call → List ℕ
 last l [] = l
 last l (c ∷ cs) = last (step l c .after) cs
+
+-- the ledger that a run leaves: calls on a ledger started for n records
+abbrev pub lastIn : ℕ → List Call → List ℕ
+lastIn n cs = last (started n) cs

@@ -1,4 +1,4 @@
--- What a loop over the records keeps, whatever test it asks of each. Assumes nothing.
+-- What a loop over the records keeps, whatever test it asks of each.
 use Prim.Native.Nat.{ℕ, suc, _+_, _≤_, _<_}
 use native.Mathlib.Omega.{arith}
 use mathlib.Core.Path.{_≡_, refl, _∙_}

@@ -1,6 +1,5 @@
--- What a sweep leaves, record by record, and what it counts. Assumes nothing.
-use Prim.Native.Nat.{ℕ, zero, suc, _+_, _*_, _-_, _≤_, _<_}
-use native.Mathlib.Nat.{add-sub-cancel-left}
+-- What a sweep leaves, record by record, and what it counts.
+use Prim.Native.Nat.{ℕ, zero, suc, _+_, _*_, _≤_, _<_}
 use native.Mathlib.Numerals.{add-one}
 use native.Mathlib.Omega.{arith}
 use native.Mathlib.Decide.{ℕ-discrete}
@@ -9,46 +8,42 @@ use mathlib.Core.Bool.{Bool, true, false, _&&_, cond}
 use mathlib.Core.List.{List, [], _++_}
 use lib.ListN.{length, take, drop, take-append-drop}
 use Rattle.octets.specs.Lists.{bit, count}
-use Rattle.octets.specs.Parts.{part, splice, blank}
+use Rattle.octets.specs.Parts.{blank}
 use Rattle.octets.proofs.Lists.{count-more, count-end}
-use Rattle.octets.proofs.Parts.{part-length, length-blank}
-use Rattle.ledger.specs.Fields.{rec, slots, records, withRecord, used}
+use Rattle.octets.proofs.Parts.{length-blank}
+use Rattle.ledger.specs.Limits.{recordSize}
+use Rattle.ledger.specs.Fields.{address, rec, slots, records, withRecord, used}
 use Rattle.ledger.specs.Checks.{expired}
 use Rattle.ledger.specs.Write.{free}
 use Rattle.ledger.specs.Sweep.{sweptRecord, sweptTo, swept, due, freedOf, freed}
 use Rattle.ledger.specs.declared.state.State.{State}
 use Rattle.ledger.specs.declared.state.State.the-variants.{Pushed, Consented, Redeemed}
 use Rattle.ledger.specs.declared.sweep.Freed.{Freed}
-use Rattle.ledger.proofs.Records.{slot-within, rec-length, length-records, records-at, length-with, slots-with, rec-same, rec-other}
+use Rattle.ledger.proofs.Records.{rec-length, length-records, records-at, length-with, slots-with, rec-same, rec-other}
 
 -- a record put back as it was
 pub with-self : (l : List ℕ) (k : ℕ) → withRecord l k (rec l k) ≡ l
 unfolding rec
 with-self l k =
-    ap (λ (t : List ℕ). take (32 + k * 256) l ++ t) (take-append-drop 256 (drop (32 + k * 256) l)) ∙ take-append-drop (32 + k * 256) l
+    ap (λ (t : List ℕ). take (address k) l ++ t) (take-append-drop recordSize (drop (address k) l)) ∙ take-append-drop (address k) l
 
 pub swept-kept : (t : ℕ) (l : List ℕ) (k : ℕ) → (used (rec l k) && expired t (rec l k)) ≡ false → l ≡ withRecord l k (sweptRecord t (rec l k))
 unfolding sweptRecord
 swept-kept t l k e = sym (rw e (with-self l k))
 
-pub swept-freed : (t : ℕ) (l : List ℕ) (k : ℕ) (y : List ℕ) → k < slots l → (used (rec l k) && expired t (rec l k)) ≡ true
-    → y ≡ blank (length (part l (32 + k * 256) (32 + k * 256 + 256 - (32 + k * 256))))
-    → splice l (32 + k * 256) (32 + k * 256 + 256 - (32 + k * 256)) y ≡ withRecord l k (sweptRecord t (rec l k))
+pub swept-freed : (t : ℕ) (l : List ℕ) (k : ℕ) (x y : List ℕ) → k < slots l → (used (rec l k) && expired t (rec l k)) ≡ true
+    → x ≡ rec l k → y ≡ blank (length x) → withRecord l k y ≡ withRecord l k (sweptRecord t (rec l k))
 unfolding sweptRecord free
-swept-freed t l k y h e d =
-    let c = add-sub-cancel-left (32 + k * 256) 256 in
-    let w = slot-within l k h in
-    let n = part-length l (32 + k * 256) 256 (omega arith) in
-    rw (d, c, n, e)
+swept-freed t l k x y h e f d = rw (d, f, rec-length l k h, e)
 
-pub length-free : length free ≡ 256
+pub length-free : length free ≡ recordSize
 unfolding free
-length-free = length-blank 256
+length-free = length-blank recordSize
 
-pub length-swept : (t : ℕ) (r : List ℕ) → length r ≡ 256 → length (sweptRecord t r) ≡ 256
+pub length-swept : (t : ℕ) (r : List ℕ) → length r ≡ recordSize → length (sweptRecord t r) ≡ recordSize
 unfolding sweptRecord
 length-swept t r h =
-    elim (used r && expired t r) as (λ (b : Bool). length (cond b free r) ≡ 256) [ true ↦ length-free | false ↦ h ]
+    elim (used r && expired t r) as (λ (b : Bool). length (cond b free r) ≡ recordSize) [ true ↦ length-free | false ↦ h ]
 
 module _ (t : ℕ) (l : List ℕ) where
   pub slots-to : (k : ℕ) → k ≤ slots l → slots (sweptTo t l k) ≡ slots l
@@ -83,7 +78,7 @@ module _ (t : ℕ) (l : List ℕ) where
       let s = length-swept t (rec l k) (rec-length l k h) in
       go e s (ℕ-discrete j k) (rec-behind k j (omega arith))
     where
-      go : slots (sweptTo t l k) ≡ slots l → length (sweptRecord t (rec l k)) ≡ 256 → Dec (j ≡ k) → (j < k → rec (sweptTo t l k) j ≡ sweptRecord t (rec l j))
+      go : slots (sweptTo t l k) ≡ slots l → length (sweptRecord t (rec l k)) ≡ recordSize → Dec (j ≡ k) → (j < k → rec (sweptTo t l k) j ≡ sweptRecord t (rec l j))
           → rec (withRecord (sweptTo t l k) k (sweptRecord t (rec l k))) j ≡ sweptRecord t (rec l j)
       go e s (yes z) ih = rw z (rec-same (sweptTo t l k) k (sweptRecord t (rec l k)) s (rw e h))
       go e s (no z) ih = rec-other (sweptTo t l k) k (sweptRecord t (rec l k)) s (rw e h) j z ∙ ih (omega (arith, z))
@@ -137,7 +132,7 @@ tally-all s t l x k h a =
     omega arith
 
 -- there are fewer records than bytes
-pub slots-small : (l : List ℕ) → slots l * 256 ≤ length l
+pub slots-small : (l : List ℕ) → slots l * recordSize ≤ length l
 unfolding slots
 slots-small l = omega arith
 

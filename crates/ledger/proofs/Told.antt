@@ -1,11 +1,11 @@
--- What a check's answer says of its condition, in the words of the table "Numbers returned". Assumes nothing.
+-- What a check's answer says of its condition, in the words of the table "Numbers returned".
 use Prim.Native.Nat.{ℕ}
 use mathlib.Core.Path.{_≡_, refl, sym, ap, _∙_}
 use mathlib.Core.Bool.{Bool, true, false, cond}
 use mathlib.Core.List.{List}
 use native.Mathlib.Omega.{arith}
 use Rattle.octets.specs.Lists.{some, place}
-use Rattle.ledger.specs.Fields.{slots, records}
+use Rattle.ledger.specs.Fields.{records}
 use Rattle.ledger.specs.Sound.{sized, sound}
 use Rattle.ledger.specs.Checks.{
   checkSize,
@@ -13,7 +13,7 @@ use Rattle.ledger.specs.Checks.{
   untimely,
   checkTime,
   taken,
-  checkFresh,
+  checkValue,
   expired,
   checkLife,
   found,
@@ -24,8 +24,8 @@ use Rattle.ledger.specs.declared.sound.Soundness.{Soundness}
 use Rattle.ledger.specs.declared.sound.Soundness.the-variants.{Sound, Unsound}
 use Rattle.ledger.specs.declared.clock.Timing.{Timing}
 use Rattle.ledger.specs.declared.clock.Timing.the-variants.{Timely, Untimely}
-use Rattle.ledger.specs.declared.fresh.Freshness.{Freshness}
-use Rattle.ledger.specs.declared.fresh.Freshness.the-variants.{Fresh, Taken}
+use Rattle.ledger.specs.declared.pool.Value.{Value}
+use Rattle.ledger.specs.declared.pool.Value.the-variants.{New, Taken}
 use Rattle.ledger.specs.declared.find.Found.{Found}
 use Rattle.ledger.specs.declared.find.Found.the-variants.{At, Nothing}
 use Rattle.ledger.specs.declared.record.Life.{Life}
@@ -41,15 +41,15 @@ isRight Right = true
 isRight Wrong = false
 
 abbrev isSound : Soundness → Bool
-isSound (Sound n) = true
+isSound Sound = true
 isSound Unsound = false
 
 abbrev isUntimely : Timing → Bool
 isUntimely Timely = false
 isUntimely Untimely = true
 
-abbrev isTaken : Freshness → Bool
-isTaken Fresh = false
+abbrev isTaken : Value → Bool
+isTaken New = false
 isTaken Taken = true
 
 abbrev isExpired : Life → Bool
@@ -70,15 +70,15 @@ size-told l a e = told isRight Right Wrong refl refl (sized l) a e
 
 pub sound-told : (l : List ℕ) (a : Soundness) → checkSound l ≡ a → sound l ≡ isSound a
 unfolding checkSound
-sound-told l a e = told isSound (Sound (slots l)) Unsound refl refl (sound l) a e
+sound-told l a e = told isSound Sound Unsound refl refl (sound l) a e
 
 pub time-told : (l : List ℕ) (t : ℕ) (a : Timing) → checkTime l t ≡ a → untimely l t ≡ isUntimely a
 unfolding checkTime
 time-told l t a e = told isUntimely Untimely Timely refl refl (untimely l t) a e
 
-pub fresh-told : (l v : List ℕ) (a : Freshness) → checkFresh l v ≡ a → taken l v ≡ isTaken a
-unfolding checkFresh
-fresh-told l v a e = told isTaken Taken Fresh refl refl (taken l v) a e
+pub value-told : (l v : List ℕ) (a : Value) → checkValue l v ≡ a → taken l v ≡ isTaken a
+unfolding checkValue
+value-told l v a e = told isTaken Taken New refl refl (taken l v) a e
 
 pub life-told : (r : List ℕ) (t : ℕ) (a : Life) → checkLife r t ≡ a → expired t r ≡ isExpired a
 unfolding checkLife

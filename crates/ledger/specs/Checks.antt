@@ -6,7 +6,7 @@ use lib.Dec.{ltb, leb}
 use Rattle.octets.specs.Lists.{some, place}
 use Rattle.octets.specs.Parts.{zeros, same}
 use Rattle.ledger.specs.Limits.{clockLimit}
-use Rattle.ledger.specs.Fields.{clock, slots, records, inState, client, value, token, expiry}
+use Rattle.ledger.specs.Fields.{clock, records, inState, client, value, token, expiry}
 use Rattle.ledger.specs.Sound.{sized, sound, holds}
 use Rattle.ledger.specs.declared.state.State.the-variants.{Free, Pushed, Consented, Redeemed}
 use Rattle.ledger.specs.declared.sound.Soundness.{Soundness}
@@ -15,8 +15,8 @@ use Rattle.ledger.specs.declared.sound.Size.{Size}
 use Rattle.ledger.specs.declared.sound.Size.the-variants.{Right, Wrong}
 use Rattle.ledger.specs.declared.clock.Timing.{Timing}
 use Rattle.ledger.specs.declared.clock.Timing.the-variants.{Timely, Untimely}
-use Rattle.ledger.specs.declared.fresh.Freshness.{Freshness}
-use Rattle.ledger.specs.declared.fresh.Freshness.the-variants.{Fresh, Taken}
+use Rattle.ledger.specs.declared.pool.Value.{Value}
+use Rattle.ledger.specs.declared.pool.Value.the-variants.{New, Taken}
 use Rattle.ledger.specs.declared.find.Found.{Found}
 use Rattle.ledger.specs.declared.find.Found.the-variants.{At, Nothing}
 use Rattle.ledger.specs.declared.find.Kind.{Kind}
@@ -28,9 +28,9 @@ use Rattle.ledger.specs.declared.record.Life.the-variants.{Alive, Expire
 unfoldable pub checkSize : List ℕ → Size
 checkSize l = cond (sized l) Right Wrong
 
--- 1: "ledger length wrong or ledger not sound"; a sound ledger answers how many records it has
+-- 1: "ledger length wrong or ledger not sound"
 unfoldable pub checkSound : List ℕ → Soundness
-checkSound l = cond (sound l) (Sound (slots l)) Unsound
+checkSound l = cond (sound l) Sound Unsound
 
 -- 2: "now is below the clock, or 2^40 or more"
 unfoldable pub untimely : List ℕ → ℕ → Bool
@@ -43,8 +43,8 @@ checkTime l t = cond (untimely l t) Untimely Timely
 unfoldable pub taken : List ℕ → List ℕ → Bool
 taken l v = zeros v || some (holds v) (records l)
 
-unfoldable pub checkFresh : List ℕ → List ℕ → Freshness
-checkFresh l v = cond (taken l v) Taken Fresh
+unfoldable pub checkValue : List ℕ → List ℕ → Value
+checkValue l v = cond (taken l v) Taken New
 
 -- 11: "A record is expired when now is at or past its expiry."
 abbrev pub expired : ℕ → List ℕ → Bool

@@ -1,6 +1,6 @@
 -- When a ledger is sound (document 01, section "Ledger", "Sound: .."), rule by rule in its order.
 use Prim.Native.Nat.{ℕ, _+_, _*_, _-_, _%_}
-use mathlib.Core.Bool.{Bool, not, _&&_, _||_, cond}
+use mathlib.Core.Bool.{Bool, false, not, _&&_, _||_}
 use mathlib.Core.List.{List}
 use lib.Dec.{eqb, ltb, leb}
 use lib.ListN.{length}
@@ -13,11 +13,8 @@ use Rattle.ledger.specs.Fields.{
   clock,
   nextNumber,
   headRest,
-  slots,
   records,
-  inState,
-  stateNumber,
-  state,
+  stateOf,
   used,
   redirectLength,
   gapOne,
@@ -34,7 +31,10 @@ use Rattle.ledger.specs.Fields.{
   redirect,
   behindRedirect,
 }
-use Rattle.ledger.specs.declared.state.State.the-variants.{Free, Pushed, Redeemed}
+use Rattle.ledger.specs.declared.state.State.{State}
+use Rattle.ledger.specs.declared.state.State.the-variants.{Free, Pushed, Consented, Redeemed}
+use Rattle.ledger.specs.declared.state.Stated.{Stated}
+use Rattle.ledger.specs.declared.state.Stated.the-variants.{Is, Unknown}
 
 -- "A 32-byte head and 1 to 200 records of 256 bytes, so 288 to 51,232 bytes."
 unfoldable pub sized : List ℕ → Bool
@@ -50,22 +50,17 @@ clockSound l = ltb (clock l) clockLimit
 abbrev pub nextSound : List ℕ → Bool
 nextSound l = leb 1 (nextNumber l)
 
--- "zero fields zero": of the head, and of a record
+-- "zero fields zero": of the head
 abbrev pub headZero : List ℕ → Bool
 headZero l = zeros (headRest l)
 
+-- ---- a record, rule by rule
+
+-- "zero fields zero"
 abbrev pub gapsZero : List ℕ → Bool
 gapsZero r = zeros (gapOne r) && zeros (gapTwo r)
 
--- "no state above 3"
-abbrev pub stateSound : List ℕ → Bool
-stateSound r = leb (state r) (stateNumber Redeemed)
-
--- "a free record all zeros"
-abbrev pub freeSound : List ℕ → Bool
-freeSound r = zeros r
-
--- "In every other record: grant number from 1 to one less than the next"
+-- "grant number from 1 to one less than the next"
 abbrev pub grantSound : ℕ → List ℕ → Bool
 grantSound next r = leb 1 (grant r) && ltb (grant r) next
 
@@ -93,27 +88,48 @@ lengthSound r = leb redirectLeast (redirectLength r) && leb (redirectLength r) r
 abbrev pub redirectSound : List ℕ → Bool
 redirectSound r = lengthSound r && (redirectFormed (redirect r) && zeros (behindRedirect r))
 
--- "Holder is zero in state 1 and nonzero in 2 and 3."
-abbrev pub holderSound : List ℕ → Bool
-holderSound r = cond (inState Pushed r) (eqb (holder r) 0) (not (eqb (holder r) 0))
-
--- "Token and bound key are zero in 1 and 2 and nonzero in 3."
-abbrev pub tokenSound : List ℕ → Bool
-tokenSound r = cond (inState Redeemed r) (not (zeros (token r))) (zeros (token r))
-
-abbrev pub keySound : List ℕ → Bool
-keySound r = cond (inState Redeemed r) (not (zeros (boundKey r))) (zeros (boundKey r))
-
--- the rules of "every other record", together
+-- "In every other record": the rules of all states but free, on numbers and on bytes
 unfoldable pub numbersSound : ℕ → List ℕ → Bool
-numbersSound next r = stateSound r && (gapsZero r && (grantSound next r && (scopeSound r && (expirySound r && holderSound r))))
+numbersSound next r = gapsZero r && (grantSound next r && (scopeSound r && expirySound r))
 
 unfoldable pub bytesSound : List ℕ → Bool
-bytesSound r = clientSound r && (valueSound r && (tokenSound r && (keySound r && (challengeSound r && redirectSound r))))
+bytesSound r = clientSound r && (valueSound r && (challengeSound r && redirectSound r))
+
+unfoldable pub usedSound : ℕ → List ℕ → Bool
+usedSound next r = numbersSound next r && bytesSound r
+
+-- "Holder is zero ..", or ".. nonzero"
+abbrev pub noHolder : List ℕ → Bool
+noHolder r = eqb (holder r) 0
+
+abbrev pub someHolder : List ℕ → Bool
+someHolder r = not (eqb (holder r) 0)
+
+-- "Token and bound key are zero ..", or ".. nonzero"
+unfoldable pub noToken : List ℕ → Bool
+noToken r = zeros (token r) && zeros (boundKey r)
+
+unfoldable pub someToken : List ℕ → Bool
+someToken r = not (zeros (token r)) && not (zeros (boundKey r))
+
+-- "a free record all zeros. In every other record: .. Holder is zero in state 1 and nonzero in 2 and 3. Token and bound key are zero in 1 and 2 and
+-- nonzero in 3."
+abbrev pub soundIn : State → ℕ → List ℕ → Bool
+soundIn Free next r = zeros r
+soundIn Pushed next r = usedSound next r && (noHolder r && noToken r)
+soundIn Consented next r = usedSound next r && (someHolder r && noToken r)
+soundIn Redeemed next r = usedSound next r && (someHolder r && someToken r)
+
+-- and "no state above 3"
+abbrev pub soundAs : Stated → ℕ → List ℕ → Bool
+soundAs (Is s) next r = soundIn s next r
+soundAs Unknown next r = false
 
 -- a record, by its state
 unfoldable pub recordSound : ℕ → List ℕ → Bool
-recordSound next r = cond (inState Free r) (freeSound r) (numbersSound next r && bytesSound r)
+recordSound next r = soundAs (stateOf r) next r
+
+-- ---- records together
 
 -- "grant number .. distinct"
 unfoldable pub sameGrant : List ℕ → List ℕ → Bool

@@ -1,4 +1,4 @@
-// Where the fields of the head and of a record begin, and where those that are parts end.
+// Where the fields of the head and of a record begin; the width of those that are read whole. A field ends where the next one begins.
 pub struct Head {}
 
 impl Head {
@@ -28,15 +28,27 @@ impl Field {
 
     pub const CLIENT: usize = 32;
 
+    pub const CLIENT_WIDTH: usize = 16;
+
     pub const CHALLENGE: usize = 48;
+
+    pub const CHALLENGE_WIDTH: usize = 43;
 
     pub const GAP_TWO: usize = 91;
 
     pub const VALUE: usize = 96;
 
+    pub const VALUE_WIDTH: usize = 32;
+
     pub const TOKEN: usize = 128;
+
+    pub const TOKEN_WIDTH: usize = 32;
 
     pub const KEY: usize = 160;
 
+    pub const KEY_WIDTH: usize = 32;
+
     pub const REDIRECT: usize = 192;
+
+    pub const REDIRECT_WIDTH: usize = 64;
 }

@@ -3,7 +3,6 @@
 pub mod clock;
 pub mod field;
 pub mod find;
-pub mod fresh;
 pub mod limit;
 pub mod pool;
 pub mod record;

@@ -81,6 +81,9 @@ impl Ledger {
 
     pub const RECORD: usize = 256;
 
+    // A record has two to this number of bytes.
+    pub const RECORD_BITS: usize = 8;
+
     pub const LEAST: usize = 1;
 
     pub const MOST: usize = 200;

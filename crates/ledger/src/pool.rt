@@ -1,29 +1,25 @@
-// The pool of values and tokens: whether a value stands in a record.
+// The pool of values and tokens: whether a record holds a value, and what check 7 answers, whether a value may enter.
 ghost use mathlib.Core.Path.{_≡_};
-ghost use mathlib.Core.Bool.{_||_};
-ghost use Rattle.octets.specs.Parts.{same};
-ghost use Rattle.ledger.specs.Fields.{value, token};
 ghost use Rattle.ledger.specs.Sound.{holds};
-use super::field::Field;
-use octets::part::cut;
+use super::record::token;
+use super::record::value;
 use octets::part::is_zero;
 use octets::part::same;
 
-// Whether v is the record's value or its token.
-fn is_either(v: &[u8], r: &[u8]) -> bool
-    ensures { λ b. ⌜ b ≡ (same (now (v .entry)) (value (now (r .entry))) || same (now (v .entry)) (token (now (r .entry)))) ⌝ }
-{
-    if same(v, cut(r, Field::VALUE, 32)) {
-        return true;
-    }
-    same(v, cut(r, Field::TOKEN, 32))
+pub enum Value {
+    New,
+    Taken,
 }
 
+// Whether the record holds v, as its value or as its token.
 pub fn holds(v: &[u8], r: &[u8]) -> bool
     ensures { λ b. ⌜ b ≡ holds (now (v .entry)) (now (r .entry)) ⌝ }
 {
     if is_zero(v) {
         return false;
     }
-    is_either(v, r)
+    if same(v, value(r)) {
+        return true;
+    }
+    same(v, token(r))
 }

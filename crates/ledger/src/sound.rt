@@ -1,6 +1,6 @@
-// What check 1 answers: whether a ledger is sound, and how many records it has; and, for a buffer whose old content is ignored, its length alone.
+// What check 1 answers: whether a ledger is sound; and, for a buffer whose old content is ignored, whether its length is right.
 pub enum Soundness {
-    Sound(usize),
+    Sound,
     Unsound,
 }
 

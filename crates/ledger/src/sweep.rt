@@ -8,11 +8,12 @@ ghost use Rattle.ledger.specs.declared.state.State.the-variants.{Pushed,
 ghost use Rattle.ledger.specs.Checks.{expired};
 ghost use Rattle.ledger.specs.Sweep.{sweptRecord, swept, due, freed};
 use super::limit::Ledger;
+use super::record::address;
 use super::record::at;
 use super::record::expiry;
 use super::record::slots;
-use super::record::state;
 use super::state::State;
+use super::state::is_in;
 use octets::part::clear;
 
 pub struct Freed {
@@ -24,7 +25,7 @@ pub struct Freed {
 fn is_due(r: &[u8], time: u64) -> bool
     ensures { λ b. ⌜ b ≡ (used (now (r .entry)) && expired time (now (r .entry))) ⌝ }
 {
-    if state(r) == State::Free.number() {
+    if is_in(r, State::Free) {
         return false;
     }
     expiry(r) <= time
@@ -35,8 +36,8 @@ fn sweep_at(l: &mut [u8], k: usize, time: u64)
     requires { ⌜ k < slots (now l) ⌝ }
     ensures { λ _. ⌜ now (l .exit) ≡ withRecord (now (l .entry)) k (sweptRecord time (rec (now (l .entry)) k)) ⌝ }
 {
-    let a = Ledger::HEAD + k * Ledger::RECORD;
-    if is_due(&l[a..a + Ledger::RECORD], time) {
+    if is_due(at(l, k), time) {
+        let a = address(k);
         clear(&mut l[a..a + Ledger::RECORD]);
     }
 }
@@ -45,7 +46,7 @@ fn sweep_at(l: &mut [u8], k: usize, time: u64)
 fn due(r: &[u8], s: State, time: u64) -> usize
     ensures { λ n. ⌜ (n ≡ bit (due s time (now (r .entry)))) × (n ≤ 1) ⌝ }
 {
-    if state(r) != s.number() {
+    if !is_in(r, s) {
         return 0;
     }
     if time < expiry(r) {

@@ -1,17 +1,19 @@
--- Lists of zeros and lists of bytes: their parts are such, and so is what is put together of such; lists that agree part by part. Assumes nothing.
+-- Lists of zeros and lists of bytes: their parts are such, and so is what is put together of such; lists that agree part by part.
 use Prim.Native.Nat.{ℕ, zero, suc, _+_, _*_, _≤_, _<_}
 use native.Mathlib.Omega.{arith}
 use native.Mathlib.Decide.{decLt}
 use mathlib.Core.Path.{_≡_, refl, sym, ap, ap₂, _∙_}
-use mathlib.Core.Bool.{true}
+use mathlib.Core.Logic.{_≢_, _↔_}
+use mathlib.Core.Bool.{Bool, true, false, _&&_, true≢false}
 use mathlib.Core.List.{List, [], _∷_, _++_}
 use lib.Dec.{eqb}
 use lib.ListN.{length, getD, take, drop, length-take, length-drop, drop-of-length-le, take-append-drop, List·getD-eq-default}
 use lib.Seq.{getD-take, getD-drop, drop-cons, drop-drop}
-use borrow.Author.Tests.{eqb-true}
+use borrow.Author.Tests.{eqb-true, eqb-false, eq-eqb}
 use Rattle.octets.specs.Parts.{part, splice, laid, put, blank, zeros}
 use Rattle.octets.specs.Numbers.{num, numFrom, digits}
-use Rattle.octets.proofs.Tests.{both}
+use Rattle.octets.specs.Plain.{AllZero, NotZero}
+use Rattle.octets.proofs.Tests.{both, both-true, false-of}
 use Rattle.octets.proofs.Parts.{zeros-append, zeros-blank, zeros-eq, part-length}
 use Rattle.octets.proofs.Numbers.{Octets, digits-num}
 
@@ -31,6 +33,27 @@ unfolding zeros
 zeros-at [] e i = refl
 zeros-at (x ∷ xs) e zero = eqb-true x 0 (both (eqb x 0) (zeros xs) e .0)
 zeros-at (x ∷ xs) e (suc i) = zeros-at xs (both (eqb x 0) (zeros xs) e .1) i
+
+-- in plain words, both ways
+zeros-of : (xs : List ℕ) → AllZero xs → zeros xs ≡ true
+unfolding zeros
+zeros-of [] f = refl
+zeros-of (x ∷ xs) f = both-true (eqb x 0) (zeros xs) (eq-eqb x 0 (f 0)) (zeros-of xs (λ i. f (suc i)))
+
+pub zeros-say : (xs : List ℕ) → (zeros xs ≡ true) ↔ AllZero xs
+zeros-say xs = (zeros-at xs, zeros-of xs)
+
+nonzero-at : (xs : List ℕ) → zeros xs ≡ false → NotZero xs
+unfolding zeros
+nonzero-at [] e = absurd (true≢false e)
+nonzero-at (x ∷ xs) e = go (eqb x 0) refl e (nonzero-at xs)
+  where
+    go : (b : Bool) → eqb x 0 ≡ b → (b && zeros xs) ≡ false → (zeros xs ≡ false → NotZero xs) → NotZero (x ∷ xs)
+    go true p q more = let n = more q in record { place = suc (n .place); byte-set = n .byte-set }
+    go false p q more = record { place = 0; byte-set = eqb-false x 0 p }
+
+pub nonzero-says : (xs : List ℕ) → (zeros xs ≡ false) ↔ NotZero xs
+nonzero-says xs = (nonzero-at xs, λ n. false-of (zeros xs) (λ e. n .byte-set (zeros-at xs e (n .place))))
 
 pub num-zeros : (xs : List ℕ) → zeros xs ≡ true → num xs ≡ 0
 unfolding zeros num numFrom

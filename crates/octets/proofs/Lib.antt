@@ -5,4 +5,3 @@ pub mod Numbers
 pub mod Parts
 pub mod Tabulate
 pub mod Bytes
-pub mod Mapped

@@ -1,4 +1,4 @@
--- Laws of the questions on a list: what a loop keeps, and what the answer says of the elements. Assumes nothing.
+-- Laws of the questions on a list: what a loop keeps, and what the answer says of the elements.
 use Prim.Native.Nat.{ℕ, zero, suc, _+_, _<_, _≤_}
 use native.Mathlib.Numerals.{add-one}
 use native.Mathlib.Omega.{arith}
@@ -11,7 +11,7 @@ use lib.ListN.{length, getD, drop, set, replicate, drop-of-length-le}
 use lib.Seq.{drop-cons, getD-set-same, getD-set-other}
 use borrow.Author.Tests.{not-true}
 use Rattle.octets.specs.Lists.{bit, every, some, count, place, apart}
-use Rattle.octets.proofs.Tests.{both, swap-and, false-of, bit-and}
+use Rattle.octets.proofs.Tests.{both, swap-and, false-of}
 
 -- ---- a loop over the elements from k on
 
@@ -72,11 +72,6 @@ module _ {A : Type 0} (q : A → Bool) where
   every-of [] d f = refl
   every-of (x ∷ xs) d f = rw (f 0 (omega arith), every-of xs d (λ i h. f (suc i) (omega arith)))
 
-  pub every-set : (l : List A) (i : ℕ) (a d : A) → every q l ≡ true → q a ≡ true → every q (set l i a) ≡ true
-  every-set [] i a d e h = refl
-  every-set (x ∷ xs) zero a d e h = rw (h, both (q x) (every q xs) e .1)
-  every-set (x ∷ xs) (suc i) a d e h = rw (both (q x) (every q xs) e .0, every-set xs i a d (both (q x) (every q xs) e .1) h)
-
   -- two tests pass of all where their conjunction does
   pub every-and : (p r : A → Bool) → ((x : A) → q x ≡ (p x && r x)) → (l : List A) → every q l ≡ (every p l && every r l)
   every-and p r f [] = refl
@@ -114,39 +109,6 @@ module _ {A : Type 0} (q : A → Bool) where
       go false p zero h ih = p
       go false p (suc j) h ih = ih j (omega arith)
 
-  pub some-at : (l : List A) (d : A) (j : ℕ) → q d ≡ false → q (getD l j d) ≡ true → some q l ≡ true
-  some-at [] d j z e = absurd (true≢false (sym e ∙ z))
-  some-at (x ∷ xs) d zero z e = rw e
-  some-at (x ∷ xs) d (suc j) z e =
-      elim (q x) as (λ (b : Bool). (b || some q xs) ≡ true) [ true ↦ refl | false ↦ some-at xs d j z e ]
-
-  pub none-at : (l : List A) (d : A) → q d ≡ false → some q l ≡ false → (j : ℕ) → q (getD l j d) ≡ false
-  none-at l d z e j = false-of _ (λ h. false≢true (sym e ∙ some-at l d j z h))
-
-  pub none-of : (l : List A) (d : A) → ((j : ℕ) → q (getD l j d) ≡ false) → some q l ≡ false
-  none-of [] d f = refl
-  none-of (x ∷ xs) d f = rw (f 0, none-of xs d (λ j. f (suc j)))
-
-  -- none passes: the first place is the end, where the default stands
-  pub place-none : (l : List A) (d : A) → some q l ≡ false → getD l (place q l) d ≡ d
-  place-none [] d e = refl
-  place-none (x ∷ xs) d e =
-      (elim (q x) as (λ (b : Bool). (b || some q xs) ≡ false → getD (x ∷ xs) (cond b 0 (suc (place q xs))) d ≡ d)
-      [ true ↦ λ e′. absurd (true≢false e′) | false ↦ λ e′. place-none xs d e′ ])
-      e
-
-  -- where at most one place passes, it is the first
-  pub place-only : (l : List A) (d : A) (j : ℕ) → q d ≡ false → ((i k : ℕ) → i < k → q (getD l i d) ≡ true → q (getD l k d) ≡ true → ⊥)
-      → q (getD l j d) ≡ true → place q l ≡ j
-  place-only [] d j z one e = absurd (true≢false (sym e ∙ z))
-  place-only (x ∷ xs) d j z one e = go (q x) refl j e (λ i h. place-only xs d i z (λ a b c. one (suc a) (suc b) (omega arith)) h)
-    where
-      go : (b : Bool) → q x ≡ b → (j : ℕ) → q (getD (x ∷ xs) j d) ≡ true → ((i : ℕ) → q (getD xs i d) ≡ true → place q xs ≡ i) → cond b 0 (suc (place q xs)) ≡ j
-      go true p zero e ih = refl
-      go true p (suc j) e ih = absurd (one 0 (suc j) (omega arith) p e)
-      go false p zero e ih = absurd (true≢false (sym e ∙ p))
-      go false p (suc j) e ih = ap suc (ih j e)
-
 -- ---- at the places inside a list, whatever the default
 
 module _ {A : Type 0} (q : A → Bool) (d : A) where
@@ -178,25 +140,9 @@ module _ {A : Type 0} (q : A → Bool) where
   count-set (x ∷ xs) zero a d h = omega arith
   count-set (x ∷ xs) (suc i) a d h = omega (arith, count-set xs i a d (omega arith))
 
-  pub count-replicate : (n : ℕ) (a : A) → q a ≡ false → count q (replicate n a) ≡ 0
-  count-replicate zero a e = refl
-  count-replicate (suc n) a e = rw (e, count-replicate n a e)
-
   pub count-append : (l m : List A) → count q (l ++ m) ≡ count q l + count q m
   count-append [] m = omega arith
   count-append (x ∷ xs) m = omega (arith, count-append xs m)
-
-  pub count-and : (p : A → Bool) (l : List A) → count (λ (x : A). q x && p x) l ≤ count q l
-  count-and p [] = omega arith
-  count-and p (x ∷ xs) = omega (arith, bit-and (q x) (p x), count-and p xs)
-
-pub count-ext : {A : Type 0} (p q : A → Bool) → ((x : A) → p x ≡ q x) → (l : List A) → count p l ≡ count q l
-count-ext p q f [] = refl
-count-ext p q f (x ∷ xs) = omega (arith, ap bit (f x), count-ext p q f xs)
-
-pub count-map : {A B : Type 0} (q : B → Bool) (f : A → B) (l : List A) → count q (map f l) ≡ count (λ (x : A). q (f x)) l
-count-map q f [] = refl
-count-map q f (x ∷ xs) = omega (arith, count-map q f xs)
 
 -- ---- no two clash
 
@@ -224,15 +170,3 @@ module _ {A : Type 0} (clash : A → A → Bool) (d : A) where
 
   pub apart-of : (l : List A) → ((x : A) → clash x d ≡ false) → ((i j : ℕ) → i < j → j < length l → clash (getD l i d) (getD l j d) ≡ false) → apart clash l ≡ true
   apart-of l z = apart-of-inside l
-
-  -- a store keeps the elements apart where what is stored is apart from each of the others
-  pub apart-set : (l : List A) (k : ℕ) (t : A) → ((x : A) → clash x d ≡ false) → k < length l → apart clash l ≡ true
-      → ((j : ℕ) → j ≢ k → j < length l → (clash t (getD l j d) ≡ false) × (clash (getD l j d) t ≡ false))
-      → length (set l k t) ≡ length l → apart clash (set l k t) ≡ true
-  apart-set l k t z b e f s = apart-of-inside (set l k t) (λ i j h m. go i j h (rw s at m) (ℕ-discrete i k) (ℕ-discrete j k))
-    where
-      go : (i j : ℕ) → i < j → j < length l → Dec (i ≡ k) → Dec (j ≡ k) → clash (getD (set l k t) i d) (getD (set l k t) j d) ≡ false
-      go i j h m (yes p) (yes q) = absurd (omega arith)
-      go i j h m (yes p) (no q) = rw (p, getD-set-same l k t d b, getD-set-other l k j t d q) (f j q m .0)
-      go i j h m (no p) (yes q) = rw (q, getD-set-same l k t d b, getD-set-other l k i t d p) (f i p (omega arith) .1)
-      go i j h m (no p) (no q) = rw (getD-set-other l k i t d p, getD-set-other l k j t d q) (apart-inside l e i j h m)

@@ -1,4 +1,4 @@
--- Laws of big-endian numbers, over the width. Assumes nothing.
+-- Laws of big-endian numbers, over the width.
 use mathlib.Core.Path.{_≡_, refl, sym, ap, _∙_}
 use mathlib.Core.List.{List, [], _∷_, _++_}
 use Prim.Native.Nat.{ℕ, zero, suc, _+_, _*_, _/_, _%_, _≤_, _<_, _^_}
@@ -12,10 +12,11 @@ use native.Mathlib.Nat.{add-mul, mul-assoc}
 use Rattle.octets.specs.Parts.{part}
 use Rattle.octets.proofs.Parts.{part-length}
 use Rattle.octets.specs.Numbers.{num, numFrom, digits}
+use Rattle.octets.specs.Plain.{Bytes}
 
 -- every element is a byte
 abbrev pub Octets : List ℕ → Type 0
-Octets xs = (i : ℕ) → getD xs i 0 < 256
+Octets xs = Bytes xs
 
 -- ---- a loop that reads
 

@@ -1,4 +1,4 @@
--- Laws of parts, splices, zeros and equality. Assumes nothing.
+-- Laws of parts, splices, zeros and equality.
 use mathlib.Core.Path.{_≡_, refl, sym, ap, _∙_}
 use mathlib.Core.List.{List, [], _∷_, _++_, append-assoc, append-nil}
 use mathlib.Core.Bool.{Bool, true, false, not, _&&_, false≢true, true≢false, and-false}

@@ -1,4 +1,4 @@
--- Laws of the list f 0, f 1, .., f (n - 1), and of a loop that fills an array from the front. Assumes nothing.
+-- Laws of the list f 0, f 1, .., f (n - 1), and of a loop that fills an array from the front.
 use Prim.Native.Nat.{ℕ, zero, suc, _+_, _<_, _≤_}
 use mathlib.Core.Path.{_≡_, refl, ap, sym, _∙_}
 use mathlib.Core.List.{List, [], _∷_, _++_}

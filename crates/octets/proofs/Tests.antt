@@ -1,4 +1,4 @@
--- Laws of Bool tests, and of two numbers. Assumes nothing.
+-- Laws of Bool tests, and of two numbers.
 use Prim.Native.Nat.{ℕ, _≤_, _<_}
 use native.Mathlib.Decide.{decLt}
 use native.Mathlib.Omega.{arith}
@@ -29,20 +29,6 @@ swap-and true false false d = refl
 pub false-of : (b : Bool) → (b ≡ true → ⊥) → b ≡ false
 false-of true f = absurd (f refl)
 false-of false f = refl
-
--- two tests that follow from each other are equal
-pub iff-eq : (a b : Bool) → (a ≡ true → b ≡ true) → (b ≡ true → a ≡ true) → a ≡ b
-iff-eq true b f g = sym (f refl)
-iff-eq false b f g = sym (false-of b (λ e. false≢true (g e)))
-
-pub bit-one : (b : Bool) → bit b ≡ 1 → b ≡ true
-bit-one true e = refl
-bit-one false e = absurd (omega arith)
-
-pub bit-and : (a b : Bool) → bit (a && b) ≤ bit a
-bit-and true true = omega arith
-bit-and true false = omega arith
-bit-and false b = omega arith
 
 -- below, or not
 pub lt-or-le : (i n : ℕ) → (i < n) ⊎ (n ≤ i)

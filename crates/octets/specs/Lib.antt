@@ -2,3 +2,5 @@
 pub mod Lists
 pub mod Numbers
 pub mod Parts
+pub mod Spans
+pub mod Plain

@@ -6,7 +6,8 @@ ghost use Rattle.ledger.specs.Limits.{referenceLifetime, clockLimit, lastNumber
 ghost use Rattle.ledger.specs.Fields.{rec, slots, withRecord, withNext, withClock};
 ghost use Rattle.ledger.specs.Write.{pushed};
 ghost use Rattle.desk.specs.Answers.{answerOf};
-ghost use Rattle.desk.specs.Push.{left, push};
+ghost use Rattle.desk.specs.Outcome.{left};
+ghost use Rattle.desk.specs.Push.{push};
 use clients::known::Known;
 use clients::table::Table;
 use desk::answer::Answer;
@@ -19,9 +20,9 @@ use ledger::clock::next_number;
 use ledger::clock::set_clock;
 use ledger::clock::set_next;
 use ledger::find::Found;
-use ledger::fresh::Freshness;
 use ledger::limit::Ledger;
 use ledger::limit::Reference;
+use ledger::pool::Value;
 use ledger::sound::Soundness;
 
 // Writes a push into its record, and answers what the record then has.
@@ -85,7 +86,7 @@ pub fn push(
 ) -> Answer
     ensures { λ r. ⌜ left r (now (ledger .exit)) ≡ push (now (ledger .entry)) time (now (table .entry)) (record { client = now (client .entry); key = now (key .entry); scope = scope; challenge = now (challenge .entry); redirect = now (redirect .entry); fresh = now (fresh .entry) }) ⌝ }
 {
-    let Soundness::Sound(_) = soundness::check(ledger) else {
+    let Soundness::Sound = soundness::check(ledger) else {
         return Answer::refused(Refusal::LedgerUnsound);
     };
     let Timing::Timely = ledger::clock::check(ledger, time) else {
@@ -103,10 +104,10 @@ pub fn push(
     let Bits::Granted(bits) = check::scope(scope, clients::record::permitted(table, asker)) else {
         return Answer::refused(Refusal::ScopeRefused);
     };
-    let Freshness::Fresh = ledger::fresh::check(ledger, fresh) else {
+    let Value::New = finding::pool::check(ledger, fresh) else {
         return Answer::refused(Refusal::FreshTaken);
     };
-    let Found::At(k) = ledger::find::free(ledger) else {
+    let Found::At(k) = finding::record::free(ledger) else {
         return Answer::refused(Refusal::LedgerFull);
     };
     let number = next_number(ledger);

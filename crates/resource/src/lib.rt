@@ -1,7 +1,7 @@
 // Resource: with token and key the program reads only what the holder allowed.
 // It rests on desk, which has its definition and its answers, on soundness and ledger, and serves demands 1 and 2.
 ghost use mathlib.Core.Path.{_≡_};
-ghost use Rattle.desk.specs.Push.{left};
+ghost use Rattle.desk.specs.Outcome.{left};
 ghost use Rattle.desk.specs.Resource.{look, resource};
 use desk::answer::Answer;
 use desk::answer::Reading;
@@ -28,13 +28,13 @@ pub fn look(
 ) -> Reading
     ensures { λ r. ⌜ r ≡ look (now (ledger .entry)) time (record { token = now (token .entry); presented = now (presented .entry); scope = scope; holder = holder }) ⌝ }
 {
-    let Soundness::Sound(_) = soundness::check(ledger) else {
+    let Soundness::Sound = soundness::check(ledger) else {
         return Reading::Refused(Refusal::LedgerUnsound);
     };
     let Timing::Timely = ledger::clock::check(ledger, time) else {
         return Reading::Refused(Refusal::TimeWrong);
     };
-    let Found::At(k) = ledger::find::token(ledger, token) else {
+    let Found::At(k) = finding::record::token(ledger, token) else {
         return Reading::Refused(Refusal::NoToken);
     };
     let r = at(ledger, k);

@@ -1,8 +1,8 @@
--- The short cuts of the pairwise searches miss nothing. Assumes nothing.
+-- The short cuts of the pairwise searches miss nothing.
 use Prim.Native.Nat.{ℕ, _+_}
 use native.Mathlib.Omega.{arith}
 use mathlib.Core.Path.{_≡_, refl, sym, ap, _∙_}
-use mathlib.Core.Bool.{Bool, true, false, not, _||_, and-false, and-true, true≢false}
+use mathlib.Core.Bool.{Bool, true, false, not, _||_, and-false, true≢false}
 use mathlib.Core.List.{List, [], _∷_}
 use lib.Dec.{eqb}
 use lib.ListN.{drop}
@@ -12,7 +12,7 @@ use Rattle.octets.specs.Lists.{some}
 use Rattle.octets.specs.Parts.{part, zeros, same}
 use Rattle.octets.proofs.Parts.{same-eq, zeros-append}
 use Rattle.octets.proofs.Tests.{false-of}
-use Rattle.ledger.specs.Fields.{slots, records, value, token, inState, used, grant}
+use Rattle.ledger.specs.Fields.{slots, records, valueSpan, tokenSpan, value, token, inState}
 use Rattle.ledger.specs.Sound.{holds, meets, sameGrant}
 use Rattle.soundness.specs.Quick.{lead, tokenLead, near, idle, partner}
 use Rattle.ledger.proofs.Loops.{some-rec-end}
@@ -64,17 +64,16 @@ near-none r s e =
 pub idle-none : (r : List ℕ) → idle r ≡ true → (s : List ℕ) → meets r s ≡ false
 unfolding idle meets
 idle-none r e s =
-    let z = zeros-append (part r 96 32) (part (drop 96 r) 32 32) (rw (take-add 32 32 (drop 96 r)) at e) in
-    rw (holds-zero (value r) s (z .0), holds-zero (token r) s (rw (drop-drop 32 96 r) at (z .1)))
+    let a = valueSpan .place in
+    let n = valueSpan .width in
+    let m = tokenSpan .width in
+    let z = zeros-append (part r a n) (part (drop a r) n m) (rw (take-add n m (drop a r)) at e) in
+    rw (holds-zero (value r) s (z .0), holds-zero (token r) s (rw (drop-drop n a r) at (z .1)))
 
 -- a free record has no number to clash with
 pub free-none : (r : List ℕ) → inState Free r ≡ true → (s : List ℕ) → sameGrant r s ≡ false
 unfolding sameGrant
 free-none r e s = rw e
-
-pub same-grant-says : (r s : List ℕ) → inState Free r ≡ false → eqb (grant r) (grant s) ≡ true → used s ≡ sameGrant r s
-unfolding sameGrant
-same-grant-says r s u g = rw (u, g) (sym (and-true (used s)))
 
 -- where a record is passed over, nothing is missed
 pub row-start : (q : List ℕ → Bool) (l : List ℕ) (i n : ℕ) (b : Bool) → n ≡ slots l → (b ≡ true → (s : List ℕ) → q s ≡ false)

@@ -5,7 +5,7 @@ use mathlib.Core.List.{List}
 use lib.Dec.{eqb}
 use lib.ListN.{getD}
 use Rattle.octets.specs.Parts.{part, zeros}
-use Rattle.ledger.specs.Fields.{value, token}
+use Rattle.ledger.specs.Fields.{valueSpan, tokenSpan, value, token}
 
 -- the first byte: where these differ, so do the values
 unfoldable pub lead : List ℕ → ℕ
@@ -21,7 +21,7 @@ near p q s = eqb (lead (value s)) p || (eqb (lead (value s)) q || (eqb (lead (to
 
 -- a record that holds nothing
 unfoldable pub idle : List ℕ → Bool
-idle r = zeros (part r 96 (32 + 32))
+idle r = zeros (part r (valueSpan .place) (valueSpan .width + tokenSpan .width))
 
 -- the first of n places to compare place i with: none where it has nothing to compare
 unfoldable pub partner : Bool → ℕ → ℕ → ℕ

@@ -4,8 +4,7 @@ ghost use Prim.Native.Nat.{_≤_, _<_};
 ghost use lib.ListN.{length};
 ghost use Rattle.octets.specs.Lists.{every, apart};
 ghost use Rattle.ledger.specs.Limits.{recordSize};
-ghost use Rattle.ledger.specs.Fields.{records, inState, value};
-ghost use Rattle.ledger.specs.declared.state.State.the-variants.{Free};
+ghost use Rattle.ledger.specs.Fields.{records, value};
 ghost use Rattle.ledger.specs.Sound.{sameGrant, meets, ownApart};
 ghost use Rattle.soundness.specs.Quick.{lead, tokenLead, near, partner};
 use super::place::whole;
@@ -13,18 +12,20 @@ use ledger::field::Field;
 use ledger::pool::holds;
 use ledger::record::grant;
 use ledger::record::slots;
+use ledger::record::token;
+use ledger::record::value;
 use ledger::state::State;
-use octets::part::cut;
+use ledger::state::is_in;
 use octets::part::is_zero;
 use octets::part::same;
 
 fn meets(r: &[u8], s: &[u8]) -> bool
     ensures { λ b. ⌜ b ≡ meets (now (r .entry)) (now (s .entry)) ⌝ }
 {
-    if holds(cut(r, Field::VALUE, 32), s) {
+    if holds(value(r), s) {
         return true;
     }
-    holds(cut(r, Field::TOKEN, 32), s)
+    holds(token(r), s)
 }
 
 fn is_own_apart(r: &[u8]) -> bool
@@ -61,23 +62,15 @@ fn partner(idle: bool, i: usize, n: usize) -> usize
 }
 
 fn is_same_grant(r: &[u8], s: &[u8]) -> bool
-    requires { ⌜ (length (now r) ≡ recordSize) × (length (now s) ≡ recordSize) ⌝ }
     ensures { λ b. ⌜ b ≡ sameGrant (now (r .entry)) (now (s .entry)) ⌝ }
 {
     if grant(r) != grant(s) {
         return false;
     }
-    if r[Field::STATE] == State::Free.number() {
+    if is_in(r, State::Free) {
         return false;
     }
-    s[Field::STATE] != State::Free.number()
-}
-
-fn is_free(r: &[u8]) -> bool
-    requires { ⌜ length (now r) ≡ recordSize ⌝ }
-    ensures { λ b. ⌜ b ≡ inState Free (now (r .entry)) ⌝ }
-{
-    r[Field::STATE] == State::Free.number()
+    !is_in(s, State::Free)
 }
 
 // Grant numbers are distinct: each pair of records is looked at, up to the first clash.
@@ -89,7 +82,7 @@ pub fn grants_apart(l: &[u8]) -> bool
     let mut i = 0;
     'search: while i < n {
         let r = whole(l, i);
-        let mut j = partner(is_free(r), i, n);
+        let mut j = partner(is_in(r, State::Free), i, n);
         while j < n {
             if is_same_grant(r, whole(l, j)) {
                 clash = true;

@@ -1,9 +1,10 @@
-// One record: free and all zeros, or in use with every field as its state wants it.
+// One record, by its state: free and all zeros, or in use with every field as its state wants it.
 ghost use mathlib.Core.Path.{_≡_};
 ghost use Prim.Native.Nat.{_<_};
 ghost use lib.ListN.{length};
 ghost use Rattle.ledger.specs.Limits.{recordSize};
-ghost use Rattle.ledger.specs.Sound.{holderSound, tokenSound, keySound, redirectSound, numbersSound, bytesSound, recordSound};
+ghost use Rattle.ledger.specs.Sound.{redirectSound, numbersSound, bytesSound, usedSound, noToken, someToken, soundIn, recordSound};
+ghost use Rattle.ledger.specs.declared.state.State.the-variants.{Pushed, Consented, Redeemed};
 use forms::Challenge;
 use forms::Form;
 use forms::Redirect;
@@ -15,38 +16,13 @@ use ledger::record::grant;
 use ledger::record::holder;
 use ledger::record::scope;
 use ledger::state::State;
+use ledger::state::Stated;
 use octets::part::is_zero;
 
-fn is_holder_sound(r: &[u8]) -> bool
-    requires { ⌜ length (now r) ≡ recordSize ⌝ }
-    ensures { λ b. ⌜ b ≡ holderSound (now (r .entry)) ⌝ }
+fn long(n: u8) -> usize
+    ensures { λ r. ⌜ (r ≡ n) × (r < 256) ⌝ }
 {
-    if r[Field::STATE] == State::Pushed.number() {
-        return holder(r) == 0;
-    }
-    holder(r) != 0
-}
-
-fn is_token_sound(r: &[u8]) -> bool
-    requires { ⌜ length (now r) ≡ recordSize ⌝ }
-    ensures { λ b. ⌜ b ≡ tokenSound (now (r .entry)) ⌝ }
-{
-    let none = is_zero(&r[Field::TOKEN..Field::KEY]);
-    if r[Field::STATE] == State::Redeemed.number() {
-        return !none;
-    }
-    none
-}
-
-fn is_key_sound(r: &[u8]) -> bool
-    requires { ⌜ length (now r) ≡ recordSize ⌝ }
-    ensures { λ b. ⌜ b ≡ keySound (now (r .entry)) ⌝ }
-{
-    let none = is_zero(&r[Field::KEY..Field::REDIRECT]);
-    if r[Field::STATE] == State::Redeemed.number() {
-        return !none;
-    }
-    none
+    n as usize
 }
 
 fn is_redirect_sound(r: &[u8]) -> bool
@@ -66,19 +42,10 @@ fn is_redirect_sound(r: &[u8]) -> bool
     is_zero(&r[Field::REDIRECT + n..Ledger::RECORD])
 }
 
-fn long(n: u8) -> usize
-    ensures { λ r. ⌜ (r ≡ n) × (r < 256) ⌝ }
-{
-    n as usize
-}
-
 fn is_numbers_sound(r: &[u8], next: u64) -> bool
     requires { ⌜ length (now r) ≡ recordSize ⌝ }
     ensures { λ b. ⌜ b ≡ numbersSound next (now (r .entry)) ⌝ }
 {
-    if State::Redeemed.number() < r[Field::STATE] {
-        return false;
-    }
     if !is_zero(&r[Field::GAP_ONE..Field::SCOPE]) {
         return false;
     }
@@ -95,10 +62,7 @@ fn is_numbers_sound(r: &[u8], next: u64) -> bool
     if scope(r) == 0 {
         return false;
     }
-    if Expiry::LIMIT <= expiry(r) {
-        return false;
-    }
-    is_holder_sound(r)
+    expiry(r) < Expiry::LIMIT
 }
 
 fn is_bytes_sound(r: &[u8]) -> bool
@@ -111,27 +75,93 @@ fn is_bytes_sound(r: &[u8]) -> bool
     if is_zero(&r[Field::VALUE..Field::TOKEN]) {
         return false;
     }
-    if !is_token_sound(r) {
-        return false;
-    }
-    if !is_key_sound(r) {
-        return false;
-    }
     let Form::Well = Challenge::check(&r[Field::CHALLENGE..Field::GAP_TWO]) else {
         return false;
     };
     is_redirect_sound(r)
 }
 
-pub fn is_record_sound(r: &[u8], next: u64) -> bool
+// The rules of every state but free.
+fn is_used_sound(r: &[u8], next: u64) -> bool
     requires { ⌜ length (now r) ≡ recordSize ⌝ }
-    ensures { λ b. ⌜ b ≡ recordSound next (now (r .entry)) ⌝ }
+    ensures { λ b. ⌜ b ≡ usedSound next (now (r .entry)) ⌝ }
 {
-    if r[Field::STATE] == State::Free.number() {
-        return is_zero(r);
-    }
     if !is_numbers_sound(r, next) {
         return false;
     }
     is_bytes_sound(r)
+}
+
+fn has_no_token(r: &[u8]) -> bool
+    requires { ⌜ length (now r) ≡ recordSize ⌝ }
+    ensures { λ b. ⌜ b ≡ noToken (now (r .entry)) ⌝ }
+{
+    if !is_zero(&r[Field::TOKEN..Field::KEY]) {
+        return false;
+    }
+    is_zero(&r[Field::KEY..Field::REDIRECT])
+}
+
+fn has_token(r: &[u8]) -> bool
+    requires { ⌜ length (now r) ≡ recordSize ⌝ }
+    ensures { λ b. ⌜ b ≡ someToken (now (r .entry)) ⌝ }
+{
+    if is_zero(&r[Field::TOKEN..Field::KEY]) {
+        return false;
+    }
+    !is_zero(&r[Field::KEY..Field::REDIRECT])
+}
+
+fn is_pushed_sound(r: &[u8], next: u64) -> bool
+    requires { ⌜ length (now r) ≡ recordSize ⌝ }
+    ensures { λ b. ⌜ b ≡ soundIn Pushed next (now (r .entry)) ⌝ }
+{
+    if !is_used_sound(r, next) {
+        return false;
+    }
+    if holder(r) != 0 {
+        return false;
+    }
+    has_no_token(r)
+}
+
+fn is_consented_sound(r: &[u8], next: u64) -> bool
+    requires { ⌜ length (now r) ≡ recordSize ⌝ }
+    ensures { λ b. ⌜ b ≡ soundIn Consented next (now (r .entry)) ⌝ }
+{
+    if !is_used_sound(r, next) {
+        return false;
+    }
+    if holder(r) == 0 {
+        return false;
+    }
+    has_no_token(r)
+}
+
+fn is_redeemed_sound(r: &[u8], next: u64) -> bool
+    requires { ⌜ length (now r) ≡ recordSize ⌝ }
+    ensures { λ b. ⌜ b ≡ soundIn Redeemed next (now (r .entry)) ⌝ }
+{
+    if !is_used_sound(r, next) {
+        return false;
+    }
+    if holder(r) == 0 {
+        return false;
+    }
+    has_token(r)
+}
+
+pub fn is_record_sound(r: &[u8], next: u64) -> bool
+    requires { ⌜ length (now r) ≡ recordSize ⌝ }
+    ensures { λ b. ⌜ b ≡ recordSound next (now (r .entry)) ⌝ }
+{
+    let Stated::Is(state) = State::of(r) else {
+        return false;
+    };
+    match state {
+        State::Free => is_zero(r),
+        State::Pushed => is_pushed_sound(r, next),
+        State::Consented => is_consented_sound(r, next),
+        State::Redeemed => is_redeemed_sound(r, next),
+    }
 }

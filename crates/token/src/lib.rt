@@ -6,7 +6,7 @@ ghost use Rattle.ledger.specs.Limits.{tokenLifetime, clockLimit};
 ghost use Rattle.ledger.specs.Fields.{rec, slots, withRecord, withClock};
 ghost use Rattle.ledger.specs.Write.{redeemed};
 ghost use Rattle.desk.specs.Answers.{answerOf};
-ghost use Rattle.desk.specs.Push.{left};
+ghost use Rattle.desk.specs.Outcome.{left};
 ghost use Rattle.desk.specs.Token.{token};
 use clients::known::Known;
 use clients::table::Table;
@@ -21,9 +21,9 @@ use ledger::clock::Timing;
 use ledger::clock::set_clock;
 use ledger::field::Field;
 use ledger::find::Found;
-use ledger::fresh::Freshness;
 use ledger::limit::Ledger;
 use ledger::limit::Token;
+use ledger::pool::Value;
 use ledger::record::Life;
 use ledger::record::at;
 use ledger::record::check_life;
@@ -68,7 +68,7 @@ pub fn token(
 ) -> Answer
     ensures { λ r. ⌜ left r (now (ledger .exit)) ≡ token (now (ledger .entry)) time (now (table .entry)) (record { client = now (client .entry); key = now (key .entry); presented = now (presented .entry); code = now (code .entry); verifier = now (verifier .entry); fresh = now (fresh .entry) }) ⌝ }
 {
-    let Soundness::Sound(_) = soundness::check(ledger) else {
+    let Soundness::Sound = soundness::check(ledger) else {
         return Answer::refused(Refusal::LedgerUnsound);
     };
     let Timing::Timely = ledger::clock::check(ledger, time) else {
@@ -86,7 +86,7 @@ pub fn token(
     let Form::Well = Verifier::check(verifier) else {
         return Answer::refused(Refusal::IllFormed);
     };
-    let Found::At(k) = ledger::find::code(ledger, code, client) else {
+    let Found::At(k) = finding::record::code(ledger, code, client) else {
         return Answer::refused(Refusal::NoCode);
     };
     let Told::Passed = check::unredeemed(at(ledger, k)) else {
@@ -101,7 +101,7 @@ pub fn token(
     ) else {
         return Answer::refused(Refusal::VerifierDiffers);
     };
-    let Freshness::Fresh = ledger::fresh::check(ledger, fresh) else {
+    let Value::New = finding::pool::check(ledger, fresh) else {
         return Answer::refused(Refusal::FreshTaken);
     };
     redeem_at(ledger, k, time, fresh, presented)

@@ -1,4 +1,4 @@
--- What a write to the head leaves as it was, and what one to a record does. Assumes nothing.
+-- What a write to the head leaves as it was, and what one to a record does.
 use Prim.Native.Nat.{ℕ, _+_, _*_, _≤_, _<_, _^_}
 use native.Mathlib.Omega.{arith}
 use mathlib.Core.Path.{_≡_, ap, _∙_}

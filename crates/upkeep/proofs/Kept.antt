@@ -1,4 +1,4 @@
--- Soundness is kept by each writer, under what its call has checked. Assumes nothing.
+-- Soundness is kept by each writer, under what its call has checked.
 use Prim.Native.Nat.{ℕ, zero, suc, _+_, _*_, _≤_, _<_, _^_}
 use native.Mathlib.Omega.{arith}
 use native.Mathlib.Nat.{le-refl}
@@ -23,7 +23,7 @@ use Rattle.ledger.specs.Sweep.{sweptRecord, sweptTo, swept}
 use Rattle.ledger.specs.declared.state.State.the-variants.{Free, Pushed, Consented}
 use Rattle.ledger.proofs.Records.{rec-length}
 use Rattle.ledger.proofs.Swept.{length-free, length-swept, slots-to, length-to, rec-swept}
-use Rattle.upkeep.specs.View.{slotOf, pushedSlot, consentedSlot, redeemedSlot}
+use Rattle.upkeep.proofs.Slots.{slotOf, pushedSlot, consentedSlot, redeemedSlot}
 use Rattle.upkeep.proofs.Written.{Wrote, wrote-redirect, wrote-behind, redirect-front, pushed-wrote, consented-wrote, redeemed-wrote}
 use Rattle.upkeep.proofs.Says.{SoundUsed, SoundRecords, free-is, of-sound, to-sound, sized-says}
 use Rattle.upkeep.proofs.Searches.{fresh-in}

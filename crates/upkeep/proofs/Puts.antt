@@ -1,8 +1,8 @@
--- What is read of a record after fields of it were written: each field written says what was put there, each other part what it said. Assumes nothing.
+-- What is read of a record after fields of it were written: each field written says what was put there, each other part what it said.
 use Prim.Native.Nat.{ℕ, _+_, _≤_, _<_}
 use native.Mathlib.Omega.{arith}
 use native.Mathlib.Decide.{decLt}
-use mathlib.Core.Path.{_≡_, refl, sym, ap, _∙_}
+use mathlib.Core.Path.{_≡_, refl, sym, ap, ap₂, _∙_}
 use mathlib.Core.Bool.{Bool, true, false, _||_, _&&_, cond}
 use mathlib.Core.List.{List, [], _∷_, _++_, append-nil}
 use lib.Dec.{eqb, leb, lit≤}
@@ -11,9 +11,11 @@ use lib.Seq.{getD-take, getD-drop, take-all, take-take, take-append-le}
 use borrow.Author.Tests.{leb-true, eqb-true}
 use Rattle.octets.specs.Parts.{part, laid, put}
 use Rattle.octets.specs.Numbers.{digits}
+use Rattle.octets.specs.Spans.{Span, field, withField}
 use Rattle.octets.proofs.Tests.{both}
 use Rattle.octets.proofs.Parts.{length-put, put-end, put-splice, put-same, put-before, put-behind}
 use Rattle.octets.proofs.Numbers.{length-digits}
+use Rattle.ledger.specs.Limits.{recordSize}
 
 -- ---- one thing put into a list of any length
 
@@ -58,78 +60,78 @@ byte-at r a =
 -- ---- fields stored in a record, one after the other
 
 pub record Store : Type 0 where
-  pub place : ℕ
-  pub width : ℕ
+  pub span : Span
   pub bytes : List ℕ
-  pub sized : length bytes ≡ width
-  pub room : place + width ≤ 256
+  pub sized : length bytes ≡ span .width
+  pub room : span .place + span .width ≤ recordSize
 
--- a number of n bytes
-abbrev pub of-number : (a n v : ℕ) → a + n ≤ 256 → Store
-of-number a n v h = record { place = a; width = n; bytes = digits n v; sized = length-digits n v; room = h }
+-- a number, as wide as its field
+abbrev pub of-number : (s : Span) (v : ℕ) → s .place + s .width ≤ recordSize → Store
+of-number s v h = record { span = s; bytes = digits (s .width) v; sized = length-digits (s .width) v; room = h }
 
-abbrev pub of-bytes : (a n : ℕ) (xs : List ℕ) → length xs ≡ n → a + n ≤ 256 → Store
-of-bytes a n xs e h = record { place = a; width = n; bytes = xs; sized = e; room = h }
+abbrev pub of-bytes : (s : Span) (xs : List ℕ) → length xs ≡ s .width → s .place + s .width ≤ recordSize → Store
+of-bytes s xs e h = record { span = s; bytes = xs; sized = e; room = h }
 
 -- the record after these, the last one first
 abbrev pub stored : List Store → List ℕ → List ℕ
 stored [] r = r
-stored (w ∷ ws) r = put (stored ws r) (w .place) (w .bytes)
+stored (w ∷ ws) r = withField (w .span) (w .bytes) (stored ws r)
 
--- two ranges that do not meet, by a test that computes
-abbrev pub aside : ℕ → ℕ → ℕ → ℕ → Bool
-aside a n b m = leb (b + m) a || leb (a + n) b
+-- two fields that do not meet, by a test that computes
+abbrev pub aside : Span → Span → Bool
+aside s t = leb (t .place + t .width) (s .place) || leb (s .place + s .width) (t .place)
 
-abbrev pub hits : Store → ℕ → ℕ → Bool
-hits w b m = eqb (w .place) b && eqb (w .width) m
+abbrev pub hits : Store → Span → Bool
+hits w t = eqb (w .span .place) (t .place) && eqb (w .span .width) (t .width)
 
--- the m bytes from b on are a field stored, or aside of all of them
-abbrev pub clean : List Store → ℕ → ℕ → Bool
-clean [] b m = true
-clean (w ∷ ws) b m = hits w b m || (aside (w .place) (w .width) b m && clean ws b m)
+-- the field is one of those stored, or aside of all of them
+abbrev pub clean : List Store → Span → Bool
+clean [] t = true
+clean (w ∷ ws) t = hits w t || (aside (w .span) t && clean ws t)
 
 -- and this is what is read there
-abbrev pub reads : List Store → List ℕ → ℕ → ℕ → List ℕ
-reads [] r b m = part r b m
-reads (w ∷ ws) r b m = cond (hits w b m) (w .bytes) (reads ws r b m)
+abbrev pub reads : List Store → List ℕ → Span → List ℕ
+reads [] r t = field t r
+reads (w ∷ ws) r t = cond (hits w t) (w .bytes) (reads ws r t)
 
 pub length-stored : (ws : List Store) (r : List ℕ) → length (stored ws r) ≡ length r
 length-stored [] r = refl
-length-stored (w ∷ ws) r = length-put (stored ws r) (w .place) (w .bytes) ∙ length-stored ws r
+length-stored (w ∷ ws) r = length-put (stored ws r) (w .span .place) (w .bytes) ∙ length-stored ws r
 
-pub put-field : (r : List ℕ) (a n : ℕ) (xs : List ℕ) → length xs ≡ n → a + n ≤ length r → (b m : ℕ) → aside a n b m ≡ true
-    → part (put r a xs) b m ≡ part r b m
-put-field r a n xs e h b m t = go (leb (b + m) a) refl
+pub put-field : (r : List ℕ) (s : Span) (xs : List ℕ) → length xs ≡ s .width → s .place + s .width ≤ length r → (t : Span) → aside s t ≡ true
+    → field t (withField s xs r) ≡ field t r
+put-field r s xs e h t z = go (leb (t .place + t .width) (s .place)) refl
   where
-    go : (p : Bool) → leb (b + m) a ≡ p → part (put r a xs) b m ≡ part r b m
-    go true p = put-before r a n xs e h b m (leb-true (b + m) a p)
-    go false p = put-behind r a n xs e h b m (leb-true (a + n) b (rw p at t))
+    go : (p : Bool) → leb (t .place + t .width) (s .place) ≡ p → field t (withField s xs r) ≡ field t r
+    go true p = put-before r (s .place) (s .width) xs e h (t .place) (t .width) (leb-true (t .place + t .width) (s .place) p)
+    go false p = put-behind r (s .place) (s .width) xs e h (t .place) (t .width) (leb-true (s .place + s .width) (t .place) (rw p at z))
 
-pub stored-reads : (ws : List Store) (r : List ℕ) → length r ≡ 256 → (b m : ℕ) → clean ws b m ≡ true → part (stored ws r) b m ≡ reads ws r b m
-stored-reads [] r h b m t = refl
-stored-reads (w ∷ ws) r h b m t = go (hits w b m) refl (stored-reads ws r h b m)
+pub stored-reads : (ws : List Store) (r : List ℕ) → length r ≡ recordSize → (t : Span) → clean ws t ≡ true → field t (stored ws r) ≡ reads ws r t
+stored-reads [] r h t z = refl
+stored-reads (w ∷ ws) r h t z = go (hits w t) refl (stored-reads ws r h t)
   where
-    room : w .place + w .width ≤ length (stored ws r)
+    room : w .span .place + w .span .width ≤ length (stored ws r)
     room = rw (length-stored ws r, h) (w .room)
 
-    go : (p : Bool) → hits w b m ≡ p → (clean ws b m ≡ true → part (stored ws r) b m ≡ reads ws r b m)
-        → part (put (stored ws r) (w .place) (w .bytes)) b m ≡ cond p (w .bytes) (reads ws r b m)
+    go : (p : Bool) → hits w t ≡ p → (clean ws t ≡ true → field t (stored ws r) ≡ reads ws r t)
+        → field t (withField (w .span) (w .bytes) (stored ws r)) ≡ cond p (w .bytes) (reads ws r t)
     go true p ih =
-        let (x, y) = both (eqb (w .place) b) (eqb (w .width) m) p in
-        let e : w .place ≡ b = eqb-true (w .place) b x in
-        let f : w .width ≡ m = eqb-true (w .width) m y in
-        rw (← e, ← f) (put-same (stored ws r) (w .place) (w .width) (w .bytes) (w .sized) room)
+        let (x, y) = both (eqb (w .span .place) (t .place)) (eqb (w .span .width) (t .width)) p in
+        let e : t .place ≡ w .span .place = sym (eqb-true (w .span .place) (t .place) x) in
+        let f : t .width ≡ w .span .width = sym (eqb-true (w .span .width) (t .width) y) in
+        ap₂ (λ (a n : ℕ). part (withField (w .span) (w .bytes) (stored ws r)) a n) e f
+        ∙ put-same (stored ws r) (w .span .place) (w .span .width) (w .bytes) (w .sized) room
     go false p ih =
-        let (x, y) = both (aside (w .place) (w .width) b m) (clean ws b m) (rw p at t) in
-        put-field (stored ws r) (w .place) (w .width) (w .bytes) (w .sized) room b m x ∙ ih y
+        let (x, y) = both (aside (w .span) t) (clean ws t) (rw p at z) in
+        put-field (stored ws r) (w .span) (w .bytes) (w .sized) room t x ∙ ih y
 
 -- aside of all of them
-abbrev pub spared : List Store → ℕ → ℕ → Bool
-spared [] b m = true
-spared (w ∷ ws) b m = aside (w .place) (w .width) b m && spared ws b m
+abbrev pub spared : List Store → Span → Bool
+spared [] t = true
+spared (w ∷ ws) t = aside (w .span) t && spared ws t
 
-pub stored-spared : (ws : List Store) (r : List ℕ) → length r ≡ 256 → (b m : ℕ) → spared ws b m ≡ true → part (stored ws r) b m ≡ part r b m
-stored-spared [] r h b m t = refl
-stored-spared (w ∷ ws) r h b m t =
-    let (x, y) = both (aside (w .place) (w .width) b m) (spared ws b m) t in
-    put-field (stored ws r) (w .place) (w .width) (w .bytes) (w .sized) (rw (length-stored ws r, h) (w .room)) b m x ∙ stored-spared ws r h b m y
+pub stored-spared : (ws : List Store) (r : List ℕ) → length r ≡ recordSize → (t : Span) → spared ws t ≡ true → field t (stored ws r) ≡ field t r
+stored-spared [] r h t z = refl
+stored-spared (w ∷ ws) r h t z =
+    let (x, y) = both (aside (w .span) t) (spared ws t) z in
+    put-field (stored ws r) (w .span) (w .bytes) (w .sized) (rw (length-stored ws r, h) (w .room)) t x ∙ stored-spared ws r h t y

@@ -1,4 +1,4 @@
--- Every byte stays below 256, whatever is written. Assumes nothing.
+-- Every byte stays below 256, whatever is written.
 use Prim.Native.Nat.{ℕ, zero, suc, _+_, _*_, _≤_, _<_}
 use native.Mathlib.Omega.{arith}
 use native.Mathlib.Decide.{decLt}
@@ -34,7 +34,7 @@ pub octets-challenge : (s : List ℕ) → challengeFormed s ≡ true → Octets 
 octets-challenge s e = octets-within s (λ i h. omega (arith, challenge-ascii s e i h))
 
 pub octets-redirect : (s : List ℕ) → redirectFormed s ≡ true → Octets s
-octets-redirect s e = octets-within s (λ i h. omega (arith, redirect-says s .0 e .1 .1 i h))
+octets-redirect s e = octets-within s (λ i h. omega (arith, redirect-says s .0 e .each i h))
 
 octets-one : (x : ℕ) → x < 256 → Octets (x ∷ [])
 octets-one x h zero = h

@@ -1,4 +1,4 @@
--- A ledger with a record replaced, or with some freed, is sound where the new record fits among the others. Assumes nothing.
+-- A ledger with a record replaced, or with some freed, is sound where the new record fits among the others.
 use Prim.Native.Nat.{ℕ, _≤_, _<_, _^_}
 use native.Mathlib.Omega.{arith}
 use native.Mathlib.Nat.{le-refl}

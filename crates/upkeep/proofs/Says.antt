@@ -1,10 +1,10 @@
--- What soundness and the searches say of every record, both ways. Assumes nothing.
+-- What soundness and the searches say of every record, both ways.
 use Prim.Native.Nat.{ℕ, _+_, _*_, _-_, _%_, _≤_, _<_}
 use native.Mathlib.Omega.{arith}
 use native.Mathlib.Decide.{decLt}
 use mathlib.Core.Path.{_≡_, refl, sym, ap, _∙_}
 use mathlib.Core.Logic.{_≢_, _⊎_, inl, inr, ⊎-elim, _↔_}
-use mathlib.Core.Bool.{Bool, true, false, _||_, not, _&&_, cond, false≢true, true≢false, or-true}
+use mathlib.Core.Bool.{Bool, true, false, _||_, not, _&&_, false≢true, true≢false, or-true}
 use mathlib.Core.List.{List, []}
 use lib.Dec.{eqb, leb, ltb}
 use lib.ListN.{length}
@@ -17,10 +17,12 @@ use Rattle.octets.proofs.Parts.{same-eq, same-refl, zeros-eq}
 use Rattle.forms.specs.Forms.{challengeFormed, redirectFormed}
 use Rattle.forms.specs.Limits.{redirectLeast, redirectMost}
 use Rattle.ledger.specs.Limits.{clockLimit, expiryLimit, headSize, recordSize, recordsLeast, recordsMost}
-use Rattle.ledger.specs.Fields.{clock, nextNumber, headRest, rec, slots, records, state, stateNumber, inState, used, redirectLength, gapOne, gapTwo, scope, grant, expiry, holder, client, challenge, value, token, boundKey, redirect, behindRedirect}
-use Rattle.ledger.specs.Sound.{sized, numbersSound, bytesSound, recordSound, sameGrant, holds, meets, ownApart, headSound, sound}
+use Rattle.ledger.specs.Fields.{clock, nextNumber, headRest, rec, slots, records, state, stateNumber, stated, used, redirectLength, gapOne, gapTwo, scope, grant, expiry, holder, client, challenge, value, token, boundKey, redirect, behindRedirect}
+use Rattle.ledger.specs.Sound.{sized, numbersSound, bytesSound, usedSound, noToken, someToken, soundIn, soundAs, recordSound, sameGrant, holds, meets, ownApart, headSound, sound}
 use Rattle.ledger.specs.Write.{free}
-use Rattle.ledger.specs.declared.state.State.the-variants.{Free, Pushed, Redeemed}
+use Rattle.ledger.specs.declared.state.State.the-variants.{Free, Pushed, Consented, Redeemed}
+use Rattle.ledger.specs.declared.state.Stated.{Stated}
+use Rattle.ledger.proofs.States.{state-cases}
 use Rattle.ledger.proofs.Records.{length-records, records-at}
 
 -- ---- tests made of others
@@ -32,10 +34,6 @@ either false b e = inr e
 pub neither : (a b : Bool) → (a || b) ≡ false → (a ≡ false) × (b ≡ false)
 neither true b e = absurd (true≢false e)
 neither false b e = (refl, e)
-
-by-test : (b x y : Bool) → (b ≡ true → x ≡ true) → (b ≡ false → y ≡ true) → cond b x y ≡ true
-by-test true x y f g = f refl
-by-test false x y f g = g refl
 
 -- ---- a record, by its state
 
@@ -66,102 +64,139 @@ pub record SoundRecord (next : ℕ) (r : List ℕ) : Type 0 where
   pub when-free : state r ≡ stateNumber Free → zeros r ≡ true
   pub when-used : state r ≢ stateNumber Free → SoundUsed next r
 
-of-used : (next : ℕ) (r : List ℕ) → numbersSound next r ≡ true → bytesSound r ≡ true → SoundUsed next r
-unfolding numbersSound bytesSound
-of-used next r e f =
-    let (a, e₁) = both (leb (state r) 3) _ e in
-    let (b, e₂) = both (zeros (gapOne r) && zeros (gapTwo r)) _ e₁ in
-    let (b₁, b₂) = both (zeros (gapOne r)) _ b in
-    let (c, e₃) = both (leb 1 (grant r) && ltb (grant r) next) _ e₂ in
-    let (c₁, c₂) = both (leb 1 (grant r)) _ c in
-    let (d, e₄) = both (not (eqb (scope r) 0)) _ e₃ in
-    let (g, h) = both (ltb (expiry r) expiryLimit) _ e₄ in
-    let (i, f₁) = both (not (zeros (client r))) _ f in
-    let (j, f₂) = both (not (zeros (value r))) _ f₁ in
-    let (k, f₃) = both (cond (inState Redeemed r) (not (zeros (token r))) (zeros (token r))) _ f₂ in
-    let (m, f₄) = both (cond (inState Redeemed r) (not (zeros (boundKey r))) (zeros (boundKey r))) _ f₃ in
-    let (n, f₅) = both (challengeFormed (challenge r)) _ f₄ in
-    let (o, f₆) = both (leb redirectLeast (redirectLength r) && leb (redirectLength r) redirectMost) _ f₅ in
-    let (o₁, o₂) = both (leb redirectLeast (redirectLength r)) _ o in
-    let (p, q) = both (redirectFormed (redirect r)) _ f₆ in
-    record {
-      state-most = leb-true (state r) 3 a;
-      gap-one = b₁;
-      gap-two = b₂;
-      grant-least = leb-true 1 (grant r) c₁;
-      grant-most = ltb-true (grant r) next c₂;
-      scope-set = eqb-false (scope r) 0 (not-true _ d);
-      expiry-most = ltb-true (expiry r) expiryLimit g;
-      holder-none = λ s. eqb-true (holder r) 0 (rw (eq-eqb (state r) 1 s) at h);
-      holder-set = λ s. eqb-false (holder r) 0 (not-true _ (rw (ne-eqb (state r) 1 s) at h));
-      client-set = not-true _ i;
-      value-set = not-true _ j;
-      token-set = λ s. not-true _ (rw (eq-eqb (state r) 3 s) at k);
-      token-none = λ s. rw (ne-eqb (state r) 3 s) at k;
-      key-set = λ s. not-true _ (rw (eq-eqb (state r) 3 s) at m);
-      key-none = λ s. rw (ne-eqb (state r) 3 s) at m;
-      challenge-well = n;
-      length-least = leb-true redirectLeast (redirectLength r) o₁;
-      length-most = leb-true (redirectLength r) redirectMost o₂;
-      redirect-well = p;
-      behind-zero = q;
-    }
+no-token : (r : List ℕ) → (noToken r ≡ true) ↔ ((zeros (token r) ≡ true) × (zeros (boundKey r) ≡ true))
+unfolding noToken
+no-token r = (both (zeros (token r)) (zeros (boundKey r)), λ f. both-true _ _ (f .0) (f .1))
 
-to-numbers : (next : ℕ) (r : List ℕ) → SoundUsed next r → numbersSound next r ≡ true
-unfolding numbersSound
-to-numbers next r s =
-    let h : cond (inState Pushed r) (eqb (holder r) 0) (not (eqb (holder r) 0)) ≡ true =
-    by-test (inState Pushed r) _ _ (λ e. eq-eqb (holder r) 0 (s .holder-none (eqb-true (state r) 1 e))) (λ e. ap not (ne-eqb (holder r) 0 (s .holder-set (eqb-false (state r) 1 e))))
-    in
-    rw (
-      le-leb (state r) 3 (s .state-most),
-      s .gap-one,
-      s .gap-two,
-      le-leb 1 (grant r) (s .grant-least),
-      lt-ltb (grant r) next (s .grant-most),
-      ne-eqb (scope r) 0 (s .scope-set),
-      lt-ltb (expiry r) expiryLimit (s .expiry-most),
-    ) h
-
-to-bytes : (next : ℕ) (r : List ℕ) → SoundUsed next r → bytesSound r ≡ true
-unfolding bytesSound
-to-bytes next r s =
-    let t : cond (inState Redeemed r) (not (zeros (token r))) (zeros (token r)) ≡ true =
-    by-test (inState Redeemed r) _ _ (λ e. ap not (s .token-set (eqb-true (state r) 3 e))) (λ e. s .token-none (eqb-false (state r) 3 e))
-    in
-    let k : cond (inState Redeemed r) (not (zeros (boundKey r))) (zeros (boundKey r)) ≡ true =
-    by-test (inState Redeemed r) _ _ (λ e. ap not (s .key-set (eqb-true (state r) 3 e))) (λ e. s .key-none (eqb-false (state r) 3 e))
-    in
-    rw (
-      s .client-set,
-      s .value-set,
-      t,
-      k,
-      s .challenge-well,
-      le-leb redirectLeast (redirectLength r) (s .length-least),
-      le-leb (redirectLength r) redirectMost (s .length-most),
-      s .redirect-well,
-    ) (s .behind-zero)
-
-pub record-says : (next : ℕ) (r : List ℕ) → (recordSound next r ≡ true) ↔ SoundRecord next r
-unfolding recordSound
-record-says next r = (
-  λ e.
-      record {
-        when-free = λ s. rw (eq-eqb (state r) 0 s) at e;
-        when-used = λ s.
-            let f = both (numbersSound next r) (bytesSound r) (rw (ne-eqb (state r) 0 s) at e) in
-            of-used next r (f .0) (f .1);
-      },
-  λ s.
-      by-test (inState Free r) _ _ (λ e. s .when-free (eqb-true (state r) 0 e))
-      (λ e.
-      let u = s .when-used (eqb-false (state r) 0 e) in
-      both-true (numbersSound next r) (bytesSound r) (to-numbers next r u) (to-bytes next r u)),
+some-token : (r : List ℕ) → (someToken r ≡ true) ↔ ((zeros (token r) ≡ false) × (zeros (boundKey r) ≡ false))
+unfolding someToken
+some-token r = (
+  λ e. let (a, b) = both (not (zeros (token r))) _ e in (not-true _ a, not-true _ b),
+  λ f. both-true _ _ (ap not (f .0)) (ap not (f .1)),
 )
 
+module _ (next : ℕ) (r : List ℕ) where
+  -- the rules of every state but free, beside those that go by the state
+  of-used : usedSound next r ≡ true → state r ≤ stateNumber Redeemed → (state r ≡ stateNumber Pushed → holder r ≡ 0)
+      → (state r ≢ stateNumber Pushed → holder r ≢ 0)
+      → (state r ≡ stateNumber Redeemed → (zeros (token r) ≡ false) × (zeros (boundKey r) ≡ false))
+      → (state r ≢ stateNumber Redeemed → (zeros (token r) ≡ true) × (zeros (boundKey r) ≡ true))
+      → SoundUsed next r
+  unfolding usedSound numbersSound bytesSound
+  of-used e most h₁ h₂ t₁ t₂ =
+      let (n, f) = both (numbersSound next r) _ e in
+      let (b, e₂) = both (zeros (gapOne r) && zeros (gapTwo r)) _ n in
+      let (b₁, b₂) = both (zeros (gapOne r)) _ b in
+      let (c, e₃) = both (leb 1 (grant r) && ltb (grant r) next) _ e₂ in
+      let (c₁, c₂) = both (leb 1 (grant r)) _ c in
+      let (d, g) = both (not (eqb (scope r) 0)) _ e₃ in
+      let (i, f₁) = both (not (zeros (client r))) _ f in
+      let (j, f₂) = both (not (zeros (value r))) _ f₁ in
+      let (m, f₅) = both (challengeFormed (challenge r)) _ f₂ in
+      let (o, f₆) = both (leb redirectLeast (redirectLength r) && leb (redirectLength r) redirectMost) _ f₅ in
+      let (o₁, o₂) = both (leb redirectLeast (redirectLength r)) _ o in
+      let (p, q) = both (redirectFormed (redirect r)) _ f₆ in
+      record {
+        state-most = most;
+        gap-one = b₁;
+        gap-two = b₂;
+        grant-least = leb-true 1 (grant r) c₁;
+        grant-most = ltb-true (grant r) next c₂;
+        scope-set = eqb-false (scope r) 0 (not-true _ d);
+        expiry-most = ltb-true (expiry r) expiryLimit g;
+        holder-none = h₁;
+        holder-set = h₂;
+        client-set = not-true _ i;
+        value-set = not-true _ j;
+        token-set = λ s. t₁ s .0;
+        token-none = λ s. t₂ s .0;
+        key-set = λ s. t₁ s .1;
+        key-none = λ s. t₂ s .1;
+        challenge-well = m;
+        length-least = leb-true redirectLeast (redirectLength r) o₁;
+        length-most = leb-true (redirectLength r) redirectMost o₂;
+        redirect-well = p;
+        behind-zero = q;
+      }
+
+  to-used : SoundUsed next r → usedSound next r ≡ true
+  unfolding usedSound numbersSound bytesSound
+  to-used s =
+      rw (
+        s .gap-one,
+        s .gap-two,
+        le-leb 1 (grant r) (s .grant-least),
+        lt-ltb (grant r) next (s .grant-most),
+        ne-eqb (scope r) 0 (s .scope-set),
+        lt-ltb (expiry r) expiryLimit (s .expiry-most),
+        s .client-set,
+        s .value-set,
+        s .challenge-well,
+        le-leb redirectLeast (redirectLength r) (s .length-least),
+        le-leb (redirectLength r) redirectMost (s .length-most),
+        s .redirect-well,
+      ) (s .behind-zero)
+
+  -- ---- by the state
+
+  when-pushed : state r ≡ stateNumber Pushed → (soundIn Pushed next r ≡ true) ↔ SoundUsed next r
+  when-pushed st = (
+    λ e.
+        let (u, f) = both (usedSound next r) _ e in
+        let (h, t) = both (eqb (holder r) 0) _ f in
+        of-used u (omega arith) (λ s. eqb-true (holder r) 0 h) (λ n. absurd (n st)) (λ s. absurd (omega arith)) (λ n. no-token r .0 t),
+    λ s.
+        let n : state r ≢ stateNumber Redeemed = λ e. omega arith in
+        both-true _ _ (to-used s) (both-true _ _ (eq-eqb (holder r) 0 (s .holder-none st)) (no-token r .1 (s .token-none n, s .key-none n))),
+  )
+
+  when-consented : state r ≡ stateNumber Consented → (soundIn Consented next r ≡ true) ↔ SoundUsed next r
+  when-consented st = (
+    λ e.
+        let (u, f) = both (usedSound next r) _ e in
+        let (h, t) = both (not (eqb (holder r) 0)) _ f in
+        of-used u (omega arith) (λ s. absurd (omega arith)) (λ n. eqb-false (holder r) 0 (not-true _ h)) (λ s. absurd (omega arith)) (λ n. no-token r .0 t),
+    λ s.
+        let p : state r ≢ stateNumber Pushed = λ e. omega arith in
+        let n : state r ≢ stateNumber Redeemed = λ e. omega arith in
+        both-true _ _ (to-used s) (both-true _ _ (ap not (ne-eqb (holder r) 0 (s .holder-set p))) (no-token r .1 (s .token-none n, s .key-none n))),
+  )
+
+  when-redeemed : state r ≡ stateNumber Redeemed → (soundIn Redeemed next r ≡ true) ↔ SoundUsed next r
+  when-redeemed st = (
+    λ e.
+        let (u, f) = both (usedSound next r) _ e in
+        let (h, t) = both (not (eqb (holder r) 0)) _ f in
+        of-used u (omega arith) (λ s. absurd (omega arith)) (λ n. eqb-false (holder r) 0 (not-true _ h)) (λ s. some-token r .0 t) (λ n. absurd (n st)),
+    λ s.
+        let p : state r ≢ stateNumber Pushed = λ e. omega arith in
+        both-true _ _ (to-used s) (both-true _ _ (ap not (ne-eqb (holder r) 0 (s .holder-set p))) (some-token r .1 (s .token-set st, s .key-set st))),
+  )
+
+  in-use : (n : ℕ) (b : Bool) → n ≢ stateNumber Free → (state r ≡ n → (b ≡ true) ↔ SoundUsed next r) → state r ≡ n → (b ≡ true) ↔ SoundRecord next r
+  in-use n b f says st = (
+    λ e. record { when-free = λ z. absurd (f (sym st ∙ z)); when-used = λ z. says st .0 e },
+    λ s. says st .1 (s .when-used (λ z. f (sym st ∙ z))),
+  )
+
+  record-as : (n : ℕ) → state r ≡ n → (soundAs (stated n) next r ≡ true) ↔ SoundRecord next r
+  record-as =
+      state-cases (λ (n : ℕ) (x : Stated). state r ≡ n → (soundAs x next r ≡ true) ↔ SoundRecord next r)
+      (λ st. (λ e. record { when-free = λ z. e; when-used = λ n. absurd (n st) }, λ s. s .when-free st))
+      (in-use (stateNumber Pushed) (soundIn Pushed next r) (λ e. omega arith) when-pushed)
+      (in-use (stateNumber Consented) (soundIn Consented next r) (λ e. omega arith) when-consented)
+      (in-use (stateNumber Redeemed) (soundIn Redeemed next r) (λ e. omega arith) when-redeemed)
+      (λ n h st. (
+        λ e. absurd (false≢true e),
+        λ s. let m = s .when-used (λ e. omega arith) .state-most in absurd (omega arith),
+      ))
+
+  pub record-says : (recordSound next r ≡ true) ↔ SoundRecord next r
+  unfolding recordSound
+  record-says = record-as (state r) refl
+
 -- "a free record all zeros": it is the one that a writer leaves
-pub free-is : (r : List ℕ) → length r ≡ 256 → zeros r ≡ true → r ≡ free
+pub free-is : (r : List ℕ) → length r ≡ recordSize → zeros r ≡ true → r ≡ free
 unfolding free
 free-is r n z = zeros-eq r z ∙ ap blank n
 
@@ -305,15 +340,15 @@ pub sized-says : (l : List ℕ)
 unfolding sized slots
 sized-says l = (
   λ e.
-      let (a, f) = both (leb 288 (length l)) _ e in
-      let (b, c) = both (leb (length l) 51232) _ f in
-      let h = leb-true 288 (length l) a in
-      let d = eqb-true ((length l - 32) % 256) 0 c in
-      (h, (leb-true (length l) 51232 b, omega arith)),
+      let (a, f) = both (leb (headSize + recordsLeast * recordSize) (length l)) _ e in
+      let (b, c) = both (leb (length l) (headSize + recordsMost * recordSize)) _ f in
+      let h = leb-true (headSize + recordsLeast * recordSize) (length l) a in
+      let d = eqb-true ((length l - headSize) % recordSize) 0 c in
+      (h, (leb-true (length l) (headSize + recordsMost * recordSize) b, omega arith)),
   λ f.
       let (a, (b, c)) = f in
-      let d : (length l - 32) % 256 ≡ 0 = omega arith in
-      rw (le-leb 288 (length l) a, le-leb (length l) 51232 b) (eq-eqb ((length l - 32) % 256) 0 d),
+      let d : (length l - headSize) % recordSize ≡ 0 = omega arith in
+      rw (le-leb (headSize + recordsLeast * recordSize) (length l) a, le-leb (length l) (headSize + recordsMost * recordSize) b) (eq-eqb ((length l - headSize) % recordSize) 0 d),
 )
 
 pub of-sound : (l : List ℕ) → sound l ≡ true → SoundLedger l
@@ -362,12 +397,3 @@ to-sound l s =
 
 pub sound-says : (l : List ℕ) → (sound l ≡ true) ↔ SoundLedger l
 sound-says l = (of-sound l, to-sound l)
-
--- in the words of the definitions: no two records meet
-pub sound-apart : (l : List ℕ) → sound l ≡ true → (i j : ℕ) → i < slots l → j < slots l → i ≢ j
-    → (sameGrant (rec l i) (rec l j) ≡ false) × (meets (rec l i) (rec l j) ≡ false)
-sound-apart l e i j h m n =
-    let w = of-sound l e .within in (
-      false-of _ (λ c. let f = grants-say (rec l i) (rec l j) .0 c in w .grants i j h m n (f .0) (f .1 .0) (f .1 .1)),
-      false-of _ (λ c. w .pool i j h m n (meets-says (rec l i) (rec l j) .0 c)),
-    )

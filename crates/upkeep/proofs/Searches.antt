@@ -1,4 +1,4 @@
--- What a search of the records says: the first such record and none before it; in a sound ledger, the only one. Assumes nothing.
+-- What a search of the records says: the first such record and none before it; in a sound ledger, the only one.
 use Prim.Native.Nat.{ℕ, zero, suc, _<_}
 use native.Mathlib.Omega.{arith}
 use native.Mathlib.Decide.{ℕ-discrete, decLt}
@@ -62,12 +62,6 @@ module _ (q : List ℕ → Bool) (l : List ℕ) where
       go (yes h) d = absurd (true≢false (sym (a .passes) ∙ b .before i h))
       go (no h) (yes m) = absurd (true≢false (sym (b .passes) ∙ a .before k m))
       go (no h) (no m) = omega (arith, h, m)
-
-  pub first-found : (k : ℕ) → First q l k → found q l ≡ At k
-  unfolding found
-  first-found k a =
-      let e = some-in k (a .inside) (a .passes) in
-      rw (e, first-place (place q (records l)) k (first-in e) a)
 
   pub found-first : (k : ℕ) → found q l ≡ At k → First q l k
   unfolding found
@@ -154,10 +148,6 @@ fresh-taken l v f =
     rw (f .nonzero) (none-found (holds v) l (λ k h. false-of _ (λ e. f .new k h (holds-says v (rec l k) .0 e .1))))
 
 -- ---- in a sound ledger: a free record is all zeros, and what is found is the only one
-
-pub free-found : (l : List ℕ) → sound l ≡ true → (k : ℕ) → k < slots l → isFree (rec l k) ≡ true → rec l k ≡ free
-unfolding isFree
-free-found l s k h e = free-is (rec l k) (rec-length l k h) (of-sound l s .within .each k h .when-free (eqb-true (state (rec l k)) 0 e))
 
 -- a value stands in one record
 pub alone : (next : ℕ) (l : List ℕ) → SoundRecords next l → (v : List ℕ) (i j : ℕ) → i < slots l → j < slots l

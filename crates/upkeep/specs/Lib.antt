@@ -1,2 +1,2 @@
--- A view of the ledger by named fields.
-pub mod View
+-- The sound ledger in plain words.
+pub mod Sound

@@ -14,7 +14,7 @@ use octets::part::same;
 
 // Check 1.
 fn is_ledger(l: &[u8]) -> bool {
-    let Soundness::Sound(_) = soundness::check(l) else {
+    let Soundness::Sound = soundness::check(l) else {
         return false;
     };
     true

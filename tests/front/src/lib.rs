@@ -3,4 +3,5 @@
 pub mod beside;
 pub mod chance;
 pub mod lent;
+pub mod readme;
 pub mod world;

@@ -1,6 +1,6 @@
 use Rattle.decide.proofs.check_fresh.Statement.{statement}
 use Rattle.desk.specs.Told.{toldIf}
-use Rattle.ledger.proofs.Told.{fresh-told}
+use Rattle.ledger.proofs.Told.{value-told}
 use borrow.Author.Needs.{needs}
 use borrow.Author.Tests.{not-true, not-false}
 use mathlib.Core.Path.{sym, _∙_}
@@ -14,13 +14,13 @@ returns-2 : tie.Need-returns-2
 unfolding toldIf
 returns-2 c =
     let c5 = c .before .before .before .before .before in
-    rw (not-false (c5 .args .yes) (c .before .before .before .if1 .left), fresh-told _ _ _ (sym (c .before .before .check .ensures) ∙ c .enum-told2 .given .1))
+    rw (not-false (c5 .args .yes) (c .before .before .before .if1 .left), value-told _ _ _ (sym (c .before .before .check .ensures) ∙ c .enum-told2 .given .1))
 
 returns-3 : tie.Need-returns-3
 unfolding toldIf
 returns-3 c =
     let c5 = c .before .before .before .before .before in
-    rw (not-false (c5 .args .yes) (c .before .before .before .if1 .left), fresh-told _ _ _ (sym (c .before .before .check .ensures) ∙ c .enum-told .given .1))
+    rw (not-false (c5 .args .yes) (c .before .before .before .if1 .left), value-told _ _ _ (sym (c .before .before .check .ensures) ∙ c .enum-told .given .1))
 
 pub check-fresh-spec : {M : Type 1} → statement M
 check-fresh-spec =

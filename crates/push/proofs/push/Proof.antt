@@ -11,7 +11,7 @@ use Rattle.desk.specs.Push.{asker}
 use Rattle.desk.specs.Requests.{PushRequest}
 use Rattle.desk.specs.Told.{toldIf, toldScope}
 use Rattle.forms.specs.Forms.{redirectFormed, challengeFormed}
-use Rattle.ledger.proofs.Told.{sound-told, time-told, fresh-told, found-told, found-place}
+use Rattle.ledger.proofs.Told.{sound-told, time-told, value-told, found-told, found-place}
 use Rattle.ledger.specs.Checks.{untimely, isFree, taken}
 use Rattle.ledger.specs.Fields.{records, slots, nextNumber, challenge, scope}
 use Rattle.ledger.specs.Limits.{lastNumber}
@@ -66,7 +66,7 @@ bits-are c =
     sym (scope-bits _ _ _ (ap (toldScope (c26 .args .scope)) (sym (permits (c .before .before .before))) ∙ sym ((c .before .before .scope) .ensures) ∙ (c .bits) .given .1))
 
 fresh-yes : (c : tie.After-enum-told11) → taken (l (c .before .before .before .before .before .before .before .before .before .before .before .before .before .before .before .before .before .before .before .before .before .before .before .before .before .before .before .before .before .before .before)) ((c .before .before .before .before .before .before .before .before .before .before .before .before .before .before .before .before .before .before .before .before .before .before .before .before .before .before .before .before .before .before .before .args .fresh) .now) ≡ false
-fresh-yes c = fresh-told _ _ _ (sym ((c .before .before .check4) .ensures) ∙ (c .enum-told11) .given .1)
+fresh-yes c = value-told _ _ _ (sym ((c .before .before .check4) .ensures) ∙ (c .enum-told11) .given .1)
 
 free-yes : (c : tie.After-k) → some isFree (records (l (c .before .before .before .before .before .before .before .before .before .before .before .before .before .before .before .before .before .before .before .before .before .before .before .before .before .before .before .before .before .before .before .before .before .before .before))) ≡ true
 free-yes c = found-told _ _ _ (sym ((c .before .before .free) .ensures) ∙ (c .k) .given .1)
@@ -135,7 +135,7 @@ returns-7 c =
     let c20 = c17 .before .before .before in
     let c24 = c20 .before .before .before .before in
     let c32 = c24 .before .before .before .before .before .before .before .before in
-    refuses ((c .refused7) .ensures) (push-7 (l c32) (c32 .args .time) ((c32 .args .table) .now) (request c32) (sound-yes c24) (timely-yes c20) (table-yes c17) (known-yes c14) (texts-yes c10) (scope-yes c6) (fresh-told _ _ _ (sym ((c .before .before .before .check4) .ensures) ∙ (c .before .enum-told12) .given .1)))
+    refuses ((c .refused7) .ensures) (push-7 (l c32) (c32 .args .time) ((c32 .args .table) .now) (request c32) (sound-yes c24) (timely-yes c20) (table-yes c17) (known-yes c14) (texts-yes c10) (scope-yes c6) (value-told _ _ _ (sym ((c .before .before .before .check4) .ensures) ∙ (c .before .enum-told12) .given .1)))
 
 returns-8 : tie.Need-returns-8
 returns-8 c =

@@ -43,7 +43,7 @@ returns-6 c = simp (sym (c .before .values-apart .ensures) ∙ not-true (c .befo
 returns-7 : tie.Need-returns-7
 unfolding checkSound sound
 returns-7 c =
-    let e6 = c .before in
+    let e6 = c in
     let e5 = e6 .before .before in
     let e4 = e5 .before .before in
     let e3 = e4 .before .before in
@@ -57,7 +57,6 @@ returns-7 c =
       sym (e4 .before .own-apart .ensures) ∙ not-false (e4 .before .own-apart .result) (e4 .if4 .left),
       sym (e5 .before .grants-apart .ensures) ∙ not-false (e5 .before .grants-apart .result) (e5 .if5 .left),
       sym (e6 .before .values-apart .ensures) ∙ not-false (e6 .before .values-apart .result) (e6 .if6 .left),
-      sym (c .slots .ensures),
     )
 
 pub check-spec : {M : Type 1} → statement M
@@ -77,5 +76,4 @@ check-spec =
     returns-5
     (search needs)
     returns-6
-    (search needs)
     returns-7)

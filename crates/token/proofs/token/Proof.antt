@@ -10,7 +10,7 @@ use Rattle.desk.specs.Requests.{TokenRequest}
 use Rattle.desk.specs.Token.{codeAt}
 use Rattle.forms.proofs.Laws.{verifier-well, verifier-ill}
 use Rattle.forms.specs.Forms.{verifierFormed}
-use Rattle.ledger.proofs.Told.{sound-told, time-told, fresh-told, life-told, found-told, found-place}
+use Rattle.ledger.proofs.Told.{sound-told, time-told, value-told, life-told, found-told, found-place}
 use Rattle.ledger.specs.Checks.{untimely, isCode, expired, taken}
 use Rattle.ledger.specs.Fields.{records, rec, slots, inState, challenge}
 use Rattle.ledger.specs.Sound.{sound}
@@ -89,7 +89,7 @@ match-yes c =
     matching-same _ _ (rw ((c .before .before .before .cut) .ensures, (record-is3 c4)) at (sym ((c .before .before .matches) .ensures) ∙ (c .enum-told18) .given .1))
 
 fresh-yes : (c : tie.After-enum-told20) → taken (l (c .before .before .before .before .before .before .before .before .before .before .before .before .before .before .before .before .before .before .before .before .before .before .before .before .before .before .before .before .before .before .before .before .before .before .before .before .before .before .before .before .before .before .before .before .before .before .before .before)) ((c .before .before .before .before .before .before .before .before .before .before .before .before .before .before .before .before .before .before .before .before .before .before .before .before .before .before .before .before .before .before .before .before .before .before .before .before .before .before .before .before .before .before .before .before .before .before .before .before .args .fresh) .now) ≡ false
-fresh-yes c = fresh-told _ _ _ (sym ((c .before .before .check5) .ensures) ∙ (c .enum-told20) .given .1)
+fresh-yes c = value-told _ _ _ (sym ((c .before .before .check5) .ensures) ∙ (c .enum-told20) .given .1)
 
 returns : tie.Need-returns
 returns c =
@@ -203,7 +203,7 @@ returns-11 c =
     let c38 = c35 .before .before .before in
     let c42 = c38 .before .before .before .before in
     let c49 = c42 .before .before .before .before .before .before .before in
-    refuses ((c .refused11) .ensures) (token-11 (l c49) (c49 .args .time) ((c49 .args .table) .now) (request c49) (sound-yes c42) (timely-yes c38) (table-yes c35) (known-yes c32) (key-yes c29) (formed-yes c26) (found-yes c22) (unused-yes c16) (alive-yes c11) (match-yes c5) (fresh-told _ _ _ (sym ((c .before .before .before .check5) .ensures) ∙ (c .before .enum-told21) .given .1)))
+    refuses ((c .refused11) .ensures) (token-11 (l c49) (c49 .args .time) ((c49 .args .table) .now) (request c49) (sound-yes c42) (timely-yes c38) (table-yes c35) (known-yes c32) (key-yes c29) (formed-yes c26) (found-yes c22) (unused-yes c16) (alive-yes c11) (match-yes c5) (value-told _ _ _ (sym ((c .before .before .before .check5) .ensures) ∙ (c .before .enum-told21) .given .1)))
 
 redeem-at-requires : tie.Need-redeem-at-requires
 redeem-at-requires c κs =

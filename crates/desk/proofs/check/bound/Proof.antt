@@ -6,11 +6,11 @@ use Rattle.desk.proofs.check.bound.Tie as tie
 
 returns : tie.Need-returns
 unfolding toldIf
-returns c = rw (sym (c .before .before .before .cut .ensures), sym (c .before .same .ensures), c .if1 .taken)
+returns c = rw (sym (c .before .before .before .bound-key .ensures), sym (c .before .same .ensures), c .if1 .taken)
 
 returns-2 : tie.Need-returns-2
 unfolding toldIf
-returns-2 c = rw (sym (c .before .before .before .cut .ensures), sym (c .before .same .ensures), c .if1 .left)
+returns-2 c = rw (sym (c .before .before .before .bound-key .ensures), sym (c .before .same .ensures), c .if1 .left)
 
 pub bound-spec : {M : Type 1} → statement M
 bound-spec = tie.close (tie.spec (search needs) (search needs) returns returns-2)

@@ -29,7 +29,7 @@ search-holds : tie.Need-search-holds Inv-loop μ-loop Inv-search μ-search
 search-holds c = (c .slots .ensures, search needs, refl, refl)
 
 loop-holds : tie.Need-loop-holds Inv-loop μ-loop Inv-search μ-search
-loop-holds c = let l = c .before .before .before .before .before .before .before .args .l .now in let i = c .before .before .before .before .search .i in let s = row-start (sameGrant (rec l i)) l i _ (c .before .is-free .result) (c .before .before .before .before .search .inv .0) (λ h. free-none (rec l i) (sym (rw (c .before .before .whole .ensures .0) at (c .before .is-free .ensures)) ∙ h)) in (search needs, search needs, search needs, search needs, s ∙ ap (λ (j : ℕ). some (sameGrant (rec l i)) (drop j (records l))) (sym (c .partner .ensures .0)))
+loop-holds c = let l = c .before .before .before .before .before .before .before .args .l .now in let i = c .before .before .before .before .search .i in let s = row-start (sameGrant (rec l i)) l i _ (c .before .is-in .result) (c .before .before .before .before .search .inv .0) (λ h. free-none (rec l i) (sym (rw (c .before .before .whole .ensures .0) at (c .before .is-in .ensures)) ∙ h)) in (search needs, search needs, search needs, search needs, s ∙ ap (λ (j : ℕ). some (sameGrant (rec l i)) (drop j (records l))) (sym (c .partner .ensures .0)))
 
 loop-again : tie.Need-loop-again Inv-loop μ-loop Inv-search μ-search
 loop-again c = let l = c .before .before .before .before .before .before .before .before .before .before .before .before .args .l .now in let i = c .before .before .before .before .before .before .before .before .before .search .i in let p = c .before .before .before .before .loop in (search needs, search needs, search needs, search needs, p .inv .4 ∙ some-rec-miss (sameGrant (rec l i)) l (p .j) (omega arith) (rw (c .before .before .before .before .before .before .before .whole .ensures .0, c .before .before .whole2 .ensures .0) at (sym (c .before .is-same-grant .ensures) ∙ c .if1 .left)))

@@ -1,13 +1,9 @@
-use Prim.Native.Nat.{ℕ}
-use Rattle.soundness.proofs.ShortCuts.{same-grant-says}
 use Rattle.soundness.proofs.pool.is_same_grant.Statement.{statement}
 use Rattle.ledger.specs.Sound.{sameGrant}
 use borrow.Author.Needs.{needs}
 use borrow.Author.Tests.{eq-eqb, ne-eqb}
-use lib.Dec.{eqb}
-use lib.ListN.{getD}
-use mathlib.Core.Bool.{not, and-false}
-use mathlib.Core.Path.{sym, ap, _∙_}
+use mathlib.Core.Bool.{and-false, and-true}
+use mathlib.Core.Path.{sym}
 use Rattle.soundness.proofs.pool.is_same_grant.Tie as tie
 
 returns : tie.Need-returns
@@ -16,21 +12,24 @@ returns c = simp (sym (c .before .before .grant .ensures), sym (c .before .grant
 
 returns-2 : tie.Need-returns-2
 unfolding sameGrant
-returns-2 c = simp (eq-eqb _ _ (c .if2 .taken ∙ c .before .number .ensures))
+returns-2 c = simp (sym (c .before .is-in .ensures), c .if2 .taken)
 
 returns-3 : tie.Need-returns-3
-returns-3 c = let a = c .before .before .before .before .before .before .before .before .before .before .args in ap (λ (n : ℕ). not (eqb (getD (a .s .now) 0 0) n)) (c .number2 .ensures) ∙ same-grant-says (a .r .now) (a .s .now) (ne-eqb _ 0 (λ e. c .before .before .if2 .left (e ∙ sym (c .before .before .before .number .ensures)))) (eq-eqb _ _ (sym (c .before .before .before .before .before .before .before .grant .ensures) ∙ c .before .before .before .before .before .if1 .left ∙ c .before .before .before .before .before .before .grant2 .ensures))
+unfolding sameGrant
+returns-3 c =
+    let e2 = c .before in
+    let e1 = e2 .before .before in
+    simp (
+      sym (e2 .before .is-in .ensures),
+      e2 .if2 .left,
+      sym (e1 .before .before .grant .ensures),
+      sym (e1 .before .grant2 .ensures),
+      eq-eqb _ _ (e1 .if1 .left),
+      sym (c .is-in2 .ensures),
+      and-true,
+    )
 
 pub is-same-grant-spec : {M : Type 1} → statement M
 is-same-grant-spec =
     tie.close
-    (tie.spec
-    (search needs)
-    (search needs)
-    returns
-    (search needs)
-    (search needs)
-    returns-2
-    (search needs)
-    (search needs)
-    returns-3)
+    (tie.spec (search needs) (search needs) returns (search needs) returns-2 (search needs) returns-3)

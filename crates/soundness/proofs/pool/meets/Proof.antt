@@ -6,11 +6,11 @@ use Rattle.soundness.proofs.pool.meets.Tie as tie
 
 returns : tie.Need-returns
 unfolding meets
-returns c = simp (sym (c .before .before .cut .ensures), sym (c .before .holds .ensures), c .if1 .taken)
+returns c = simp (sym (c .before .before .value .ensures), sym (c .before .holds .ensures), c .if1 .taken)
 
 returns-2 : tie.Need-returns-2
 unfolding meets
-returns-2 c = simp (sym (c .before .before .before .before .cut .ensures), sym (c .before .before .before .holds .ensures), c .before .before .if1 .left, sym (c .before .cut2 .ensures), sym (c .holds2 .ensures))
+returns-2 c = simp (sym (c .before .before .before .before .value .ensures), sym (c .before .before .before .holds .ensures), c .before .before .if1 .left, sym (c .before .token .ensures), sym (c .holds2 .ensures))
 
 pub meets-spec : {M : Type 1} → statement M
 meets-spec =
