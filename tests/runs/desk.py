@@ -113,7 +113,7 @@ def at_the_desk(program):
 def by_the_page(program):
     """docs/OPERATOR.md: its first calls as they stand, and a row for each number."""
     page = (TOP / "docs/OPERATOR.md").read_text(encoding="utf8")
-    calls = re.search(r"^```\n(.*?)^```$", page, re.M | re.S).group(1).split("\n")[:-1]
+    calls = re.search(r"^```text\n(.*?)^```$", page, re.M | re.S).group(1).split("\n")[:-1]
     answers, status = said(DESK, program, given="\n".join(calls))
     yield "the page's calls are answered 0", len(calls) == 4 and status == 0 and all(line.startswith("0: done") for line in answers)
     rows = [int(n) for n in re.findall(r"^\| (\d+) \|", page.partition("## What each number asks of you")[2], re.M)]
