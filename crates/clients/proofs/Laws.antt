@@ -14,7 +14,7 @@ use Rattle.octets.proofs.Lists.{place-lt, place-ok, place-first, place-is, none
 use Rattle.octets.proofs.Parts.{zeros-eq, zeros-blank, same-eq, same-of, differ-is, differ-of, given-is, given-of}
 use Rattle.octets.proofs.Tests.{both, both-true, false-of}
 use Rattle.clients.specs.Limits.{leastClients, mostClients, clientSize}
-use Rattle.clients.specs.Fields.{clients, client, entries, id, authKey, rest}
+use Rattle.clients.specs.Fields.{clients, client, entries, id, authKey}
 use Rattle.clients.specs.Sound.{lengthRight, idGiven, idsGiven, keyGiven, keysGiven, sameId, idsDistinct, restZero, restsZero, sound, soundIf, checkTable}
 use Rattle.clients.specs.Plain.{SoundTable}
 use Rattle.clients.specs.Known.{hasId, hasKey, placeOf, atIf, isKnown, known}

@@ -7,7 +7,7 @@ use mathlib.Core.List.{List, []}
 use lib.Dec.{eqb}
 use lib.ListN.{length}
 use borrow.Author.Tests.{ltb-true, lt-ltb, leb-true, le-leb, eqb-true, eq-eqb, not-true, not-false}
-use Rattle.octets.specs.Lists.{some, place}
+use Rattle.octets.specs.Lists.{some}
 use Rattle.octets.specs.Parts.{same}
 use Rattle.octets.proofs.Tests.{both, both-true, false-of}
 use Rattle.octets.proofs.Bytes.{zeros-say}
@@ -22,7 +22,7 @@ use Rattle.ledger.specs.Fields.{nextNumber, rec, slots, records, state, stateNu
 use Rattle.ledger.specs.Sound.{sized, sound}
 use Rattle.ledger.specs.Checks.{isFree, isReference, isCode, isToken, untimely, expired, taken}
 use Rattle.ledger.specs.declared.state.State.the-variants.{Free, Pushed, Consented, Redeemed}
-use Rattle.upkeep.proofs.Searches.{First, some-in, none-in, none-found, first-in, free-says, reference-first, code-first, token-first}
+use Rattle.upkeep.proofs.Searches.{some-in, none-in, none-found, first-in, free-says, reference-first, code-first, token-first}
 use Rattle.upkeep.proofs.Plain.{size-says, ledger-says}
 use Rattle.clients.specs.Fields.{client as entry, permitted}
 use Rattle.clients.specs.Known.{isKnown, placeOf}
@@ -39,7 +39,7 @@ use Rattle.desk.specs.Token.{codeAt, tokenChecks}
 use Rattle.desk.specs.Resource.{tokenPlace, resourceChecks}
 use Rattle.desk.specs.Sweep.{sweepChecks}
 use Rattle.desk.specs.declared.answer.Refusal.{Refusal}
-use Rattle.conduct.specs.Conditions.{InTime, ScopeWithin, FreshValue, StandsAt, TokenAt}
+use Rattle.conduct.specs.Conditions.{ScopeWithin, FreshValue, StandsAt, TokenAt}
 use Rattle.conduct.proofs.Rows.{startChecks, start-turn, push-turn, decide-turn, token-turn, resource-turn, sweep-turn}
 use Rattle.conduct.proofs.Readings.{time-says, known-is, is-known, scope-says, fresh-says, match-says, place-named, reference-stands, code-stands, redeemed-stands, token-stands}
 use Rattle.demands.specs.Calls.{Call, start, push, decide, token, resource, sweep, leaves}

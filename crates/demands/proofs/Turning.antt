@@ -5,7 +5,7 @@ use mathlib.Core.Logic.{_⊎_, inl, inr, ⊎-elim, _↔_}
 use mathlib.Core.Bool.{Bool, true, false, not, _&&_, true≢false}
 use mathlib.Core.List.{List, [], _∷_}
 use borrow.Author.Tests.{not-true}
-use Rattle.octets.proofs.Tests.{both-true, false-of}
+use Rattle.octets.proofs.Tests.{false-of}
 use Rattle.desk.specs.Checks.{Check, _when_}
 use Rattle.desk.specs.declared.answer.Refusal.{Refusal}
 use Rattle.conduct.proofs.Turns.{Turn as Stop}
