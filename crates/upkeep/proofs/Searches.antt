@@ -16,11 +16,10 @@ use Rattle.octets.proofs.Parts.{same-eq, same-refl}
 use Rattle.ledger.specs.Fields.{rec, slots, records, state, stateNumber, inState, client, value, token}
 use Rattle.ledger.specs.Sound.{holds, sound}
 use Rattle.ledger.specs.Checks.{taken, found, isFree, isWith, isReference, isCode, isToken}
-use Rattle.ledger.specs.Write.{free}
 use Rattle.ledger.specs.declared.state.State.the-variants.{Free, Pushed, Consented, Redeemed}
 use Rattle.ledger.specs.declared.find.Found.the-variants.{At, Nothing}
-use Rattle.ledger.proofs.Records.{length-records, records-at, rec-length}
-use Rattle.upkeep.proofs.Says.{either, neither, SoundRecord, SoundRecords, Of, holds-says, free-is, of-sound}
+use Rattle.ledger.proofs.Records.{length-records, records-at}
+use Rattle.upkeep.proofs.Says.{either, neither, SoundRecord, SoundRecords, Of, holds-says, of-sound}
 
 -- record k is the first that passes
 pub record First (q : List ℕ → Bool) (l : List ℕ) (k : ℕ) : Type 0 where
