@@ -16,10 +16,11 @@ use Rattle.octets.proofs.Parts.{same-eq, same-refl}
 use Rattle.ledger.specs.Fields.{rec, slots, records, state, stateNumber, inState, client, value, token}
 use Rattle.ledger.specs.Sound.{holds, sound}
 use Rattle.ledger.specs.Checks.{taken, found, isFree, isWith, isReference, isCode, isToken}
+use Rattle.ledger.specs.Write.{free}
 use Rattle.ledger.specs.declared.state.State.the-variants.{Free, Pushed, Consented, Redeemed}
 use Rattle.ledger.specs.declared.find.Found.the-variants.{At, Nothing}
-use Rattle.ledger.proofs.Records.{length-records, records-at}
-use Rattle.upkeep.proofs.Says.{either, neither, SoundRecord, SoundRecords, Of, holds-says, of-sound}
+use Rattle.ledger.proofs.Records.{length-records, records-at, rec-length}
+use Rattle.upkeep.proofs.Says.{either, neither, SoundRecord, SoundRecords, Of, holds-says, free-is, of-sound}
 
 -- record k is the first that passes
 pub record First (q : List ℕ → Bool) (l : List ℕ) (k : ℕ) : Type 0 where
@@ -147,6 +148,10 @@ fresh-taken l v f =
     rw (f .nonzero) (none-found (holds v) l (λ k h. false-of _ (λ e. f .new k h (holds-says v (rec l k) .0 e .1))))
 
 -- ---- in a sound ledger: a free record is all zeros, and what is found is the only one
+
+pub free-found : (l : List ℕ) → sound l ≡ true → (k : ℕ) → k < slots l → isFree (rec l k) ≡ true → rec l k ≡ free
+unfolding isFree
+free-found l s k h e = free-is (rec l k) (rec-length l k h) (of-sound l s .within .each k h .when-free (eqb-true (state (rec l k)) 0 e))
 
 -- a value stands in one record
 pub alone : (next : ℕ) (l : List ℕ) → SoundRecords next l → (v : List ℕ) (i j : ℕ) → i < slots l → j < slots l
