@@ -16,6 +16,7 @@ use Rattle.octets.proofs.Numbers.{Octets}
 use Rattle.octets.proofs.Parts.{length-put, put-same, part-length}
 use Rattle.ledger.specs.Limits.{lastNumber}
 use Rattle.ledger.specs.Fields.{clock, nextNumber, headRest, rec, slots, records, used, redirectField, withRecord, withNext, withClock}
+use Rattle.ledger.specs.Sound.{sized}
 use Rattle.ledger.specs.Checks.{isFree, isReference, isCode, expired}
 use Rattle.ledger.specs.Write.{pushed, consented, redeemed, free}
 use Rattle.ledger.specs.Sweep.{sweptRecord, swept}
@@ -27,13 +28,15 @@ use Rattle.upkeep.proofs.Kept.{head-swept}
 use Rattle.upkeep.proofs.Says.{of-sound}
 use Rattle.upkeep.proofs.Searches.{first-in}
 use Rattle.desk.specs.Limits.{outputLeast}
-use Rattle.desk.specs.Answers.{done}
+use Rattle.desk.specs.Answers.{done, numberOf}
 use Rattle.desk.specs.Requests.{PushRequest, DecideRequest, TokenRequest, ResourceRequest}
 use Rattle.desk.specs.Push.{Outcome, pushRecord, pushAt, push}
 use Rattle.desk.specs.Decide.{Decision, referenceAt, handedOut, consentRecord, consentAt, declineAt, decideAt, decide}
 use Rattle.desk.specs.Token.{codeAt, tokenRecord, tokenAt, token}
 use Rattle.desk.specs.Resource.{resource}
 use Rattle.desk.specs.Sweep.{Sweeping, sweep}
+use Rattle.desk.specs.Start.{leftAt, start, fresh}
+use Rattle.desk.specs.declared.answer.Refusal.the-variants.{LedgerUnsound}
 use Rattle.desk.proofs.Written.{timely-lt}
 use Rattle.conduct.proofs.Turns.{number-refused}
 use Rattle.conduct.proofs.Rows.{push-cases, decide-cases, token-cases, resource-cases, sweep-cases}
@@ -304,6 +307,17 @@ module _ (l : List ℕ) (t : ℕ) where
         long = length-clock t (swept t l) ∙ n;
       })
 
+-- ---- start, where the length is right
+
+pub start-writes : (l : List ℕ) → (start l) .number ≡ done → (sized l ≡ true) × ((start l) .ledger ≡ fresh (length l))
+unfolding start
+start-writes l = by (sized l)
+  where
+    by : (b : Bool) → (cond b (leftAt done (fresh (length l))) (leftAt (numberOf LedgerUnsound) l)) .number ≡ done
+        → (b ≡ true) × ((cond b (leftAt done (fresh (length l))) (leftAt (numberOf LedgerUnsound) l)) .ledger ≡ fresh (length l))
+    by true e = (refl, refl)
+    by false e = absurd (number-refused LedgerUnsound e)
+
 -- ---- "A refusal .. changes no lent byte, clock included."
 
 pub push-unchanged : (l : List ℕ) (t : ℕ) (table : List ℕ) (p : PushRequest) → (push l t table p) .answer .number ≢ done → (push l t table p) .ledger ≡ l
@@ -331,3 +345,12 @@ resource-unchanged l t q =
 pub sweep-unchanged : (l : List ℕ) (t : ℕ) → (sweep l t) .answer .number ≢ done → (sweep l t) .ledger ≡ l
 sweep-unchanged l t =
     sweep-cases l t (λ (o : Sweeping). o .answer .number ≢ done → o .ledger ≡ l) (λ why u n. refl) (λ ok n. absurd (n refl))
+
+pub start-unchanged : (l : List ℕ) → (start l) .number ≢ done → (start l) .ledger ≡ l
+unfolding start
+start-unchanged l = by (sized l)
+  where
+    by : (b : Bool) → (cond b (leftAt done (fresh (length l))) (leftAt (numberOf LedgerUnsound) l)) .number ≢ done
+        → (cond b (leftAt done (fresh (length l))) (leftAt (numberOf LedgerUnsound) l)) .ledger ≡ l
+    by true n = absurd (n refl)
+    by false n = refl

@@ -2,7 +2,7 @@
 use Prim.Native.Nat.{ℕ}
 use mathlib.Core.Path.{_≡_, refl, sym, ap, _∙_}
 use mathlib.Core.Logic.{⊎-elim, _↔_}
-use mathlib.Core.Bool.{Bool, true, false, _||_, cond, or-true, false≢true}
+use mathlib.Core.Bool.{Bool, true, false, not, _||_, cond, or-true, false≢true}
 use lib.ListN.{length}
 use mathlib.Core.List.{List, [], _∷_, map}
 use lib.Dec.{eqb}
@@ -13,7 +13,7 @@ use Rattle.ledger.specs.Checks.{isFree}
 use Rattle.ledger.specs.Sound.{sized}
 use Rattle.ledger.specs.Sweep.{freed, swept}
 use Rattle.desk.specs.Answers.{numberOf, done, answerOf, refused, undecided, sweptOf, unswept}
-use Rattle.desk.specs.Checks.{Check, Verdict, accepted, stopped, first}
+use Rattle.desk.specs.Checks.{Check, _when_, Verdict, accepted, stopped, first}
 use Rattle.desk.specs.Requests.{PushRequest, DecideRequest, TokenRequest, ResourceRequest}
 use Rattle.desk.specs.Push.{Outcome, left, concludes, pushChecks, pushAt, push}
 use Rattle.desk.specs.Decide.{Decision, leftBoth, concludesBoth, referenceAt, decideChecks, consentAt, declineAt, decideAt, decide}
@@ -149,6 +149,23 @@ module _ (l : List ℕ) where
       by : (b : Bool) → ((cond b (leftAt done (fresh (length l))) (leftAt (numberOf LedgerUnsound) l)) .number ≡ done) ↔ (b ≡ true)
       by true = (λ e. refl, λ e. refl)
       by false = (λ e. absurd (number-refused LedgerUnsound e), λ e. absurd (false≢true e))
+
+-- the one row of start
+abbrev pub startChecks : List ℕ → List Check
+startChecks l = (LedgerUnsound when not (sized l)) ∷ []
+
+module _ (l : List ℕ) where
+  start-number : (start l) .number ≡ numberBy (first (startChecks l))
+  unfolding start first
+  start-number = by (sized l)
+    where
+      by : (b : Bool) → (cond b (leftAt done (fresh (length l))) (leftAt (numberOf LedgerUnsound) l)) .number
+          ≡ numberBy (cond (not b) (stopped LedgerUnsound) accepted)
+      by true = refl
+      by false = refl
+
+  pub start-turn : (why : Refusal) → ((start l) .number ≡ numberOf why) ↔ Turn why (startChecks l)
+  start-turn = turns-exactly _ (startChecks l) start-number
 
 -- ---- demand 1: each call's number is 0 or one of those that its list names
 
