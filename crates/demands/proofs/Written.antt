@@ -12,7 +12,7 @@ use Rattle.octets.proofs.Parts.{part-length, zeros-eq}
 use Rattle.octets.proofs.Bytes.{zeros-part, zeros-drop}
 use Rattle.forms.specs.Limits.{redirectMost}
 use Rattle.ledger.specs.Limits.{referenceLifetime, codeLifetime, tokenLifetime}
-use Rattle.ledger.specs.Fields.{nextNumber, redirectField, stateSpan, redirectLengthSpan, gapOneSpan, scopeSpan, grantSpan, expirySpan, holderSpan, clientSpan, challengeSpan, gapTwoSpan, valueSpan, tokenSpan, boundKeySpan, redirectSpan}
+use Rattle.ledger.specs.Fields.{nextNumber, stateSpan, redirectLengthSpan, gapOneSpan, scopeSpan, grantSpan, expirySpan, holderSpan, clientSpan, challengeSpan, gapTwoSpan, valueSpan, tokenSpan, boundKeySpan, redirectSpan, redirectField}
 use Rattle.ledger.specs.Write.{pushed, consented, redeemed}
 use Rattle.upkeep.proofs.Puts.{put-wide, Store, of-number, of-bytes, stored, clean, reads, length-stored, stored-reads, stored-spared}
 use Rattle.desk.specs.Requests.{PushRequest, DecideRequest, TokenRequest}
@@ -74,7 +74,7 @@ module _
         ∙ ap (λ (xs : List ℕ). put (stored first-stores r) 192 (p .redirect ++ drop (length (p .redirect)) xs)) (stored-spared first-stores r long redirectSpan refl)
 
     push-at : (s : Span) → clean push-stores s ≡ true → field s the-pushed ≡ reads push-stores r s
-    push-at s e = ap (λ (xs : List ℕ). field s xs) push-stored ∙ stored-reads push-stores r long s e
+    push-at s e = ap (field s) push-stored ∙ stored-reads push-stores r long s e
 
     pub entered : Entered l t p r the-pushed
     entered =

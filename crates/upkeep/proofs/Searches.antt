@@ -149,7 +149,6 @@ fresh-taken l v f =
 
 -- ---- in a sound ledger: a free record is all zeros, and what is found is the only one
 
--- a free record is all zeros
 pub free-found : (l : List ℕ) → sound l ≡ true → (k : ℕ) → k < slots l → isFree (rec l k) ≡ true → rec l k ≡ free
 unfolding isFree
 free-found l s k h e = free-is (rec l k) (rec-length l k h) (of-sound l s .within .each k h .when-free (eqb-true (state (rec l k)) 0 e))
