@@ -29,12 +29,12 @@ use Rattle.desk.specs.Outcome.{Outcome}
 use Rattle.desk.specs.declared.answer.Answer.{Answer}
 use Rattle.desk.specs.declared.answer.Decided.{Decided}
 use Rattle.desk.specs.Push.{pushRecord, pushAt}
-use Rattle.desk.specs.Decide.{referenceAt, consentRecord, consentAt, decideChecks}
-use Rattle.desk.specs.Token.{codeAt, tokenRecord, tokenAt, tokenChecks}
+use Rattle.desk.specs.Decide.{referencePlace, consentRecord, consentAt, decideChecks}
+use Rattle.desk.specs.Token.{codePlace, tokenRecord, tokenAt, tokenChecks}
 use Rattle.desk.specs.Resource.{resourceChecks}
 use Rattle.desk.specs.declared.answer.Refusal.the-variants.{LedgerUnsound, RecordExpired}
 use Rattle.desk.proofs.Written.{decide-yes, timely-lt}
-use Rattle.conduct.proofs.Turns.{number-refused}
+use Rattle.desk.proofs.Turns.{number-refused}
 use Rattle.conduct.proofs.Rows.{push-cases, decide-cases, token-cases}
 use Rattle.conduct.proofs.Facts.{PushFacts, push-facts, decide-facts, TokenFacts, token-facts}
 use Rattle.conduct.proofs.Readings.{place-named}
@@ -113,7 +113,7 @@ module _ (l : List ℕ) (t : ℕ) (d : DecideRequest) (out : List ℕ) (y : Type
       (λ why u e. absurd (number-refused why e))
       (λ ok e.
       let f = decide-facts l t d out ok in
-      let k = referenceAt l d in
+      let k = referencePlace l d in
       let r = consentRecord t (d .holder) (d .fresh) (rec l k) in
       let found = first-in (isReference (d .reference) (d .client)) l (f .there) in
       let was = reference-says (d .reference) (d .client) (rec l k) .0 (found .passes) in
@@ -127,13 +127,13 @@ module _ (l : List ℕ) (t : ℕ) (d : DecideRequest) (out : List ℕ) (y : Type
 
 module _ (l : List ℕ) (t : ℕ) (table : List ℕ) (q : TokenRequest) (y : TypedToken t table q) where
   abbrev pub tokenOne : List ℕ
-  tokenOne = tokenRecord t q (rec l (codeAt l q))
+  tokenOne = tokenRecord t q (rec l (codePlace l q))
 
   pub token-wrote : TokenFacts l t table q
-      → Wrote (rec l (codeAt l q)) tokenOne (redeemedSlot (t + tokenLifetime) (q .fresh) (q .presented) (slotOf (rec l (codeAt l q))))
+      → Wrote (rec l (codePlace l q)) tokenOne (redeemedSlot (t + tokenLifetime) (q .fresh) (q .presented) (slotOf (rec l (codePlace l q))))
   unfolding tokenRecord
   token-wrote f =
-      let k = codeAt l q in
+      let k = codePlace l q in
       let b = timely-lt l t (f .in-time) in
       redeemed-wrote (t + tokenLifetime) (q .fresh) (q .presented) (rec l k) (omega arith) (y .fresh .long) (y .presented .long)
       (rec-length l k (first-in (isCode (q .code) (q .client)) l (f .there) .inside))
@@ -148,7 +148,7 @@ module _ (l : List ℕ) (t : ℕ) (table : List ℕ) (q : TokenRequest) (y : Typ
       (λ ok e.
       let f = token-facts l t table q ok in
       let a = token-wrote f in
-      written-stands l t (codeAt l q) tokenOne test (t + tokenLifetime) (first-in (isCode (q .code) (q .client)) l (f .there) .inside) (a .long) (g f)
+      written-stands l t (codePlace l q) tokenOne test (t + tokenLifetime) (first-in (isCode (q .code) (q .client)) l (f .there) .inside) (a .long) (g f)
       (a .expiry-is))
 
   token-stands : numberIn (step l (token t table q) .answer) ≡ done

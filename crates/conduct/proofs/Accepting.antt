@@ -27,8 +27,8 @@ use Rattle.desk.specs.Answers.{done}
 use Rattle.desk.specs.Checks.{scopeFits}
 use Rattle.desk.specs.Requests.{PushRequest, DecideRequest, TokenRequest, ResourceRequest}
 use Rattle.desk.specs.Push.{push}
-use Rattle.desk.specs.Decide.{referenceAt, decide}
-use Rattle.desk.specs.Token.{codeAt, token}
+use Rattle.desk.specs.Decide.{referencePlace, decide}
+use Rattle.desk.specs.Token.{codePlace, token}
 use Rattle.desk.specs.Resource.{tokenPlace, resource}
 use Rattle.desk.specs.Sweep.{sweep}
 use Rattle.desk.specs.Start.{start}
@@ -108,17 +108,17 @@ module _ (l : List ℕ) (t : ℕ) (d : DecideRequest) (out : List ℕ) where
   decide-says : DecideFacts l t d out → DecideAccepted l t d out
   decide-says f =
       let r = first-in (isReference (d .reference) (d .client)) l (f .there) in
-      let (a, (b, c)) = reference-says (d .reference) (d .client) (rec l (referenceAt l d)) .0 (r .passes) in
+      let (a, (b, c)) = reference-says (d .reference) (d .client) (rec l (referencePlace l d)) .0 (r .passes) in
       record {
         ledger-sound = f .ledger-sound;
         in-time = time-says l t .0 (f .in-time);
         output-room = ltb-false (length out) outputLeast (f .output-long);
-        k = referenceAt l d;
+        k = referencePlace l d;
         inside = r .inside;
         is-pushed = a;
         reference-is = b;
         client-is = c;
-        alive = alive-says t (rec l (referenceAt l d)) .0 (f .alive);
+        alive = alive-says t (rec l (referencePlace l d)) .0 (f .alive);
         holder-given = eqb-false (d .holder) 0 (f .holder-set);
         fresh-new = yes-new (d .yes) .0 (f .new);
       }
@@ -149,7 +149,7 @@ module _ (l : List ℕ) (t : ℕ) (table : List ℕ) (q : TokenRequest) where
   redeem-says : TokenFacts l t table q → TokenAccepted l t table q
   redeem-says f =
       let r = first-in (isCode (q .code) (q .client)) l (f .there) in
-      let (a, (b, c)) = code-waits (q .code) (q .client) (rec l (codeAt l q)) (r .passes) (f .unredeemed) in
+      let (a, (b, c)) = code-waits (q .code) (q .client) (rec l (codePlace l q)) (r .passes) (f .unredeemed) in
       record {
         ledger-sound = f .ledger-sound;
         in-time = time-says l t .0 (f .in-time);
@@ -158,12 +158,12 @@ module _ (l : List ℕ) (t : ℕ) (table : List ℕ) (q : TokenRequest) where
         known = known-is table (q .client) (q .key) (f .known);
         key-presented = f .key-set;
         verifier-well = verifier-says (q .verifier) .0 (f .formed);
-        k = codeAt l q;
+        k = codePlace l q;
         inside = r .inside;
         is-consented = a;
         code-is = b;
         client-is = c;
-        alive = alive-says t (rec l (codeAt l q)) .0 (f .alive);
+        alive = alive-says t (rec l (codePlace l q)) .0 (f .alive);
         verified = f .verified;
         fresh-new = fresh-says l (q .fresh) .0 (f .new);
       }

@@ -27,7 +27,7 @@ use Rattle.clients.specs.declared.known.Known.the-variants.{At}
 use Rattle.clients.proofs.Laws.{known-at, known-sound}
 use Rattle.desk.specs.Checks.{scopeFits, within}
 use Rattle.conduct.specs.Accepted.{InTime, KnownAt, RedirectWell, ChallengeWell, VerifierWell, ScopeWithin, FreshValue}
-use Rattle.desk.proofs.Told.{known-told, known-place}
+use Rattle.desk.proofs.Tests.{known-told, known-place}
 
 -- ---- what several calls ask
 

@@ -14,12 +14,12 @@ use Rattle.ledger.specs.Checks.{expired}
 use Rattle.ledger.specs.Write.{free}
 use Rattle.ledger.specs.Sweep.{sweptRecord}
 use Rattle.upkeep.proofs.Replaced.{free-state}
-use Rattle.desk.specs.Decide.{referenceAt, consentAt, declineAt}
-use Rattle.desk.specs.Token.{codeAt, tokenAt}
+use Rattle.desk.specs.Decide.{referencePlace, consentAt, declineAt}
+use Rattle.desk.specs.Token.{codePlace, tokenAt}
 use Rattle.desk.specs.declared.answer.Refusal.{Refusal}
 use Rattle.history.specs.Runs.{Call, push, decide, token, resource, sweep, Typed, AllTyped, Step, step}
 use Rattle.history.specs.Counts.{Whose, isConsent, isIssue, waits, waiting, dropped, dropsIn, consents, tokens, drops}
-use Rattle.conduct.proofs.Turns.{Passed}
+use Rattle.desk.proofs.Turns.{Passed}
 use Rattle.history.proofs.Steps.{checksOf, refusal, acceptance, left, step-cases, decide-branch, refused-not}
 use Rattle.conduct.proofs.Facts.{push-facts, decide-facts, token-facts, resource-facts, sweep-facts}
 use Rattle.history.proofs.Effects.{
@@ -105,7 +105,7 @@ module _ (whose : Whose) where
       decide-branch (Even l) l t d out
       (λ yes.
       let e = consented l t d out y f in
-      let k = referenceAt l d in
+      let k = referencePlace l d in
       let s = consentOne l t d out y f in
       let m = consentAt l t (d .holder) (d .fresh) out k .ledger in
       let w : bit (whose (client s) (holder s)) ≡ bit (whose (d .client) (d .holder)) = rw (e .client-is, e .by, e .holder-is) in
@@ -119,7 +119,7 @@ module _ (whose : Whose) where
       ))
       (λ no.
       let e = declines l t d out y f in
-      let k = referenceAt l d in
+      let k = referencePlace l d in
       let m = declineAt l t (d .holder) out k .ledger in
       omega (
         arith,
@@ -131,7 +131,7 @@ module _ (whose : Whose) where
   even-done l (token t table q) o y ok =
       let f = token-facts l t table q ok in
       let e = redeems l t table q y f in
-      let k = codeAt l q in
+      let k = codePlace l q in
       let s = tokenOne l t table q y f in
       let w : bit (whose (client (rec l k)) (holder (rec l k))) ≡ bit (whose (q .client) (holder s)) = rw (e .by, e .holder-is) in
       omega (

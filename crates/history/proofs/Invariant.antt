@@ -21,16 +21,16 @@ use Rattle.ledger.specs.Sweep.{sweptRecord}
 use Rattle.ledger.proofs.Records.{records-at}
 use Rattle.upkeep.proofs.Replaced.{free-state}
 use Rattle.upkeep.proofs.Heads.{rec-next}
-use Rattle.desk.specs.Start.{fresh}
+use Rattle.desk.specs.Start.{emptyLedger}
 use Rattle.desk.specs.Push.{pushAt}
 use Rattle.desk.specs.Requests.{PushRequest, DecideRequest, TokenRequest}
-use Rattle.desk.specs.Decide.{referenceAt, consentAt, declineAt, consentRecord}
+use Rattle.desk.specs.Decide.{referencePlace, consentAt, declineAt, consentRecord}
 use Rattle.desk.specs.Token.{tokenAt}
 use Rattle.desk.specs.declared.answer.Refusal.{Refusal}
 use Rattle.history.specs.Runs.{Call, push, decide, token, resource, sweep, Typed, AllTyped, decided, Step, step, started}
 use Rattle.history.specs.Histories.{concerns, history, unborn, asked, redeemed}
 use Rattle.history.specs.Histories as histories
-use Rattle.conduct.proofs.Turns.{Passed}
+use Rattle.desk.proofs.Turns.{Passed}
 use Rattle.history.proofs.Steps.{checksOf, refusedBy, refusal, acceptance, left, step-cases, consenting, declining, deciding, decide-branch, refused-not}
 use Rattle.conduct.proofs.Facts.{push-facts, decide-facts, token-facts, resource-facts, sweep-facts}
 use Rattle.history.proofs.Effects.{
@@ -280,12 +280,12 @@ swept-tied t tr r x = elim (used r && expired t r) as (λ (b : Bool). Tied tr (c
 -- ---- every call
 
 consent-hears : (l : List ℕ) (t : ℕ) (d : DecideRequest) (out : List ℕ) (f : ℕ)
-    → concerns f (decide t d out) (deciding l t d out (consenting l t d out) .answer) ≡ eqb f (grant (consentRecord t (d .holder) (d .fresh) (rec l (referenceAt l d))))
+    → concerns f (decide t d out) (deciding l t d out (consenting l t d out) .answer) ≡ eqb f (grant (consentRecord t (d .holder) (d .fresh) (rec l (referencePlace l d))))
 unfolding consentAt
 consent-hears l t d out f = refl
 
 decline-hears : (l : List ℕ) (t : ℕ) (d : DecideRequest) (out : List ℕ) (f : ℕ)
-    → concerns f (decide t d out) (deciding l t d out (declining l t d out) .answer) ≡ eqb f (grant (rec l (referenceAt l d)))
+    → concerns f (decide t d out) (deciding l t d out (declining l t d out) .answer) ≡ eqb f (grant (rec l (referencePlace l d)))
 unfolding declineAt
 decline-hears l t d out f = refl
 
@@ -330,7 +330,7 @@ inv-step l c tr o y inv =
 -- ---- from the start
 
 pub started-at : (n j : ℕ) → state (getD (records (started n)) j []) ≡ 0
-unfolding fresh rec
+unfolding emptyLedger rec
 started-at n j = go (decLt j (slots (started n)))
   where
     zero-at : state (rec (started n) j) ≡ 0

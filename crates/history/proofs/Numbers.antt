@@ -11,10 +11,10 @@ use Rattle.octets.proofs.Parts.{length-blank}
 use Rattle.octets.proofs.Numbers.{Octets}
 use Rattle.ledger.specs.Fields.{nextNumber}
 use Rattle.upkeep.proofs.Heads.{next-is}
-use Rattle.desk.specs.Start.{fresh}
+use Rattle.desk.specs.Start.{emptyLedger}
 use Rattle.desk.specs.Push.{pushAt}
 use Rattle.desk.specs.declared.answer.Refusal.{Refusal}
-use Rattle.conduct.proofs.Turns.{Passed}
+use Rattle.desk.proofs.Turns.{Passed}
 use Rattle.conduct.proofs.Facts.{push-facts, decide-facts, token-facts, resource-facts, sweep-facts}
 use Rattle.history.specs.Runs.{Call, push, decide, token, resource, sweep, Typed, AllTyped, Step, grantOf, started}
 use Rattle.history.specs.Histories.{isPush, numbersOf}
@@ -91,7 +91,7 @@ no-number why (sweep t) = refl
 
 pub numbered-run : (n : ℕ) (cs : List Call) → Good (started n) → AllTyped cs
     → Numbered (run (started n) cs) (numbersOf (reverse (trace (started n) cs)))
-unfolding numbersOf fresh tabulate
+unfolding numbersOf emptyLedger tabulate
 numbered-run n [] g y =
     let b = length-blank (32 + n * 256) in
     record { next = next-is 1 (blank (32 + n * 256)) (omega arith) (omega arith); are = refl }

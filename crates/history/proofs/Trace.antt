@@ -8,7 +8,7 @@ use Rattle.ledger.specs.Sound.{sound}
 use Rattle.upkeep.proofs.Ranges.{octets-started}
 use Rattle.upkeep.proofs.Kept.{sound-start}
 use Rattle.desk.specs.Requests.{PushRequest, DecideRequest, TokenRequest}
-use Rattle.desk.specs.Start.{fresh}
+use Rattle.desk.specs.Start.{emptyLedger}
 use Rattle.conduct.proofs.Keeping.{
   PushTyped,
   DecideTyped,
@@ -109,5 +109,5 @@ good-run l [] g y = g
 good-run l (c ∷ cs) g y = good-step (run l cs) c (good-run l cs g (y .1)) (y .0)
 
 pub good-start : (n : ℕ) → 1 ≤ n → n ≤ 200 → Good (started n)
-unfolding fresh
+unfolding emptyLedger
 good-start n a b = record { is-sound = sound-start n a b; bytes = octets-started (32 + n * 256) }
