@@ -19,8 +19,9 @@ use Rattle.ledger.specs.Sweep.{freed}
 use Rattle.history.specs.Runs.{Call, push, sweep, Bytes, TypedPush, step, numberIn, started, last, AllTyped, Said, swept as says, grantOf}
 use Rattle.ledger.specs.Fields.{nextNumber}
 use Rattle.ledger.specs.declared.sweep.Freed.{Freed}
-use Rattle.desk.specs.Push.{Outcome}
-use Rattle.desk.specs.Sweep.{Sweeping}
+use Rattle.desk.specs.Outcome.{Outcome}
+use Rattle.desk.specs.declared.answer.Answer.{Answer}
+use Rattle.desk.specs.declared.answer.Swept.{Swept}
 use Rattle.conduct.proofs.Turns.{number-refused}
 use Rattle.conduct.proofs.Rows.{push-cases, sweep-cases}
 use Rattle.conduct.proofs.Facts.{push-facts}
@@ -140,7 +141,7 @@ counts-only : (l : List ℕ) (t : ℕ) (o : Seen) → Allowed l (sweep t) o → 
 unfolding step
 counts-only l t o a e =
     ap (λ (s : Seen). countsIn (s .answer)) a
-    ∙ sweep-cases l t (λ (w : Sweeping). w .answer .number ≡ done → countsIn (says (w .answer)) ≡ freed t l) (λ why u n. absurd (number-refused why n)) (λ ok n. refl)
+    ∙ sweep-cases l t (λ (w : Outcome Swept). w .answer .number ≡ done → countsIn (says (w .answer)) ≡ freed t l) (λ why u n. absurd (number-refused why n)) (λ ok n. refl)
     (sym (ap (λ (s : Seen). numberIn (s .answer)) a) ∙ e)
 
 number-only : (l : List ℕ) (t : ℕ) (table : List ℕ) (p : PushRequest) (o : Seen) → Bytes l → TypedPush t table p → Allowed l (push t table p) o
@@ -148,7 +149,7 @@ number-only : (l : List ℕ) (t : ℕ) (table : List ℕ) (p : PushRequest) (o :
 unfolding step pushAt
 number-only l t table p o b y a e =
     ap (λ (s : Seen). grantOf (s .answer)) a
-    ∙ push-cases l t table p (λ (w : Outcome). w .answer .number ≡ done → w .answer .grant ≡ nextNumber l) (λ why u n. absurd (number-refused why n))
+    ∙ push-cases l t table p (λ (w : Outcome Answer). w .answer .number ≡ done → w .answer .grant ≡ nextNumber l) (λ why u n. absurd (number-refused why n))
     (λ ok n. push-wrote l t table p b y (push-facts l t table p ok) .grant-is)
     (sym (ap (λ (s : Seen). numberIn (s .answer)) a) ∙ e)
 

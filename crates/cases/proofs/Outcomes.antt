@@ -2,12 +2,13 @@
 use Prim.Native.Nat.{ℕ}
 use mathlib.Core.Path.{_≡_, refl, sym, ap, ap₂, _∙_}
 use mathlib.Core.List.{List}
-use Rattle.desk.specs.Start.{Started, leftAt, start}
-use Rattle.desk.specs.Push.{Outcome, left, push}
-use Rattle.desk.specs.Decide.{Decision, leftBoth, decide}
+use Rattle.desk.specs.Outcome.{Outcome, left, leftWith}
+use Rattle.desk.specs.Start.{start}
+use Rattle.desk.specs.Push.{push}
+use Rattle.desk.specs.Decide.{decide}
 use Rattle.desk.specs.Token.{token}
 use Rattle.desk.specs.Resource.{resource}
-use Rattle.desk.specs.Sweep.{Sweeping, leftSwept, sweep}
+use Rattle.desk.specs.Sweep.{sweep}
 use Rattle.desk.specs.declared.answer.Answer.{Answer}
 use Rattle.desk.specs.declared.answer.Decided.{Decided}
 use Rattle.desk.specs.declared.answer.Swept.{Swept}
@@ -28,12 +29,12 @@ one-each =
       of-is = is-one;
       of-are = are-one;
       of-made = made-one;
-      start-one = λ l. made-one (ℕ × List ℕ) Started (λ x. leftAt (x .0) (x .1)) (λ o. (o .number, o .ledger)) (λ x. refl) (start l);
-      push-one = λ l t table p. made-one (Answer × List ℕ) Outcome (λ x. left (x .0) (x .1)) (λ o. (o .answer, o .ledger)) (λ x. refl) (push l t table p);
+      start-one = λ l. made-one (ℕ × List ℕ) (Outcome ℕ) (λ x. left (x .0) (x .1)) (λ o. (o .answer, o .ledger)) (λ x. refl) (start l);
+      push-one = λ l t table p. made-one (Answer × List ℕ) (Outcome Answer) (λ x. left (x .0) (x .1)) (λ o. (o .answer, o .ledger)) (λ x. refl) (push l t table p);
       decide-one = λ l t d out.
-          made-one (Decided × (List ℕ × List ℕ)) Decision (λ x. leftBoth (x .0) (x .1 .0) (x .1 .1)) (λ o. (o .answer, (o .ledger, o .output)))
+          made-one (Decided × (List ℕ × List ℕ)) (Outcome Decided) (λ x. leftWith (x .0) (x .1 .0) (x .1 .1)) (λ o. (o .answer, (o .ledger, o .output)))
           (λ x. refl) (decide l t d out);
-      token-one = λ l t table q. made-one (Answer × List ℕ) Outcome (λ x. left (x .0) (x .1)) (λ o. (o .answer, o .ledger)) (λ x. refl) (token l t table q);
-      resource-one = λ l t q. made-one (Answer × List ℕ) Outcome (λ x. left (x .0) (x .1)) (λ o. (o .answer, o .ledger)) (λ x. refl) (resource l t q);
-      sweep-one = λ l t. made-one (Swept × List ℕ) Sweeping (λ x. leftSwept (x .0) (x .1)) (λ o. (o .answer, o .ledger)) (λ x. refl) (sweep l t);
+      token-one = λ l t table q. made-one (Answer × List ℕ) (Outcome Answer) (λ x. left (x .0) (x .1)) (λ o. (o .answer, o .ledger)) (λ x. refl) (token l t table q);
+      resource-one = λ l t q. made-one (Answer × List ℕ) (Outcome Answer) (λ x. left (x .0) (x .1)) (λ o. (o .answer, o .ledger)) (λ x. refl) (resource l t q);
+      sweep-one = λ l t. made-one (Swept × List ℕ) (Outcome Swept) (λ x. left (x .0) (x .1)) (λ o. (o .answer, o .ledger)) (λ x. refl) (sweep l t);
     }

@@ -22,7 +22,8 @@ use Rattle.ledger.specs.Checks.{untimely}
 use Rattle.upkeep.proofs.Heads.{clock-next}
 use Rattle.upkeep.proofs.Kept.{sound-start}
 use Rattle.desk.specs.Answers.{numberOf, done}
-use Rattle.desk.specs.Start.{leftAt, fresh, start}
+use Rattle.desk.specs.Outcome.{left}
+use Rattle.desk.specs.Start.{fresh, start}
 use Rattle.desk.specs.Sweep.{sweepChecks}
 use Rattle.desk.specs.declared.answer.Refusal.the-variants.{LedgerUnsound, TimeWrong}
 use Rattle.history.specs.Runs.{sweep, step, numberIn, started}
@@ -39,11 +40,11 @@ sized-fits : (l : List ℕ) (n : ℕ) → length l ≡ n → sized l ≡ fits n
 unfolding sized
 sized-fits l n e = ap fits e
 
-pub start-number : (l : List ℕ) (n : ℕ) (b : Bool) → length l ≡ n → fits n ≡ b → start l .number ≡ numberIf LedgerUnsound (not b)
+pub start-number : (l : List ℕ) (n : ℕ) (b : Bool) → length l ≡ n → fits n ≡ b → start l .answer ≡ numberIf LedgerUnsound (not b)
 unfolding start
 start-number l n b e f = rw (sized-fits l n e ∙ f) (by b)
   where
-    by : (b : Bool) → (cond b (leftAt done (fresh (length l))) (leftAt (numberOf LedgerUnsound) l)) .number ≡ numberIf LedgerUnsound (not b)
+    by : (b : Bool) → (cond b (left done (fresh (length l))) (left (numberOf LedgerUnsound) l)) .answer ≡ numberIf LedgerUnsound (not b)
     by true = refl
     by false = refl
 

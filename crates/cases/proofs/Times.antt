@@ -25,8 +25,11 @@ use Rattle.upkeep.proofs.Searches.{First, first-in, reference-first, code-first
 use Rattle.upkeep.proofs.Written.{Wrote, pushed-wrote, consented-wrote, redeemed-wrote}
 use Rattle.desk.specs.Answers.{done}
 use Rattle.desk.specs.Requests.{PushRequest, DecideRequest, TokenRequest}
-use Rattle.desk.specs.Push.{Outcome, pushRecord, pushAt}
-use Rattle.desk.specs.Decide.{Decision, referenceAt, consentRecord, consentAt, decideChecks}
+use Rattle.desk.specs.Outcome.{Outcome}
+use Rattle.desk.specs.declared.answer.Answer.{Answer}
+use Rattle.desk.specs.declared.answer.Decided.{Decided}
+use Rattle.desk.specs.Push.{pushRecord, pushAt}
+use Rattle.desk.specs.Decide.{referenceAt, consentRecord, consentAt, decideChecks}
 use Rattle.desk.specs.Token.{codeAt, tokenRecord, tokenAt, tokenChecks}
 use Rattle.desk.specs.Resource.{resourceChecks}
 use Rattle.desk.specs.declared.answer.Refusal.the-variants.{LedgerUnsound, RecordExpired}
@@ -90,7 +93,7 @@ module _ (l : List ℕ) (t : ℕ) (table : List ℕ) (p : PushRequest) (o : Octe
       → Stands (isReference (p .fresh) (p .client)) (t + referenceLifetime) (step l (push t table p) .after)
   unfolding step pushAt slotOf
   push-stands =
-      push-cases l t table p (λ (o : Outcome). o .answer .number ≡ done → Stands (isReference (p .fresh) (p .client)) (t + referenceLifetime) (o .ledger))
+      push-cases l t table p (λ (o : Outcome Answer). o .answer .number ≡ done → Stands (isReference (p .fresh) (p .client)) (t + referenceLifetime) (o .ledger))
       (λ why u e. absurd (number-refused why e))
       (λ ok e.
       let f = push-facts l t table p ok in
@@ -106,7 +109,7 @@ module _ (l : List ℕ) (t : ℕ) (d : DecideRequest) (out : List ℕ) (y : Type
   unfolding step consentAt consentRecord slotOf
   consent-stands =
       decide-cases l t d out
-      (λ (o : Decision). o .answer .answer .number ≡ done → Stands (isCode (d .fresh) (d .client)) (t + codeLifetime) (o .ledger))
+      (λ (o : Outcome Decided). o .answer .answer .number ≡ done → Stands (isCode (d .fresh) (d .client)) (t + codeLifetime) (o .ledger))
       (λ why u e. absurd (number-refused why e))
       (λ ok e.
       let f = decide-facts l t d out ok in
@@ -140,7 +143,7 @@ module _ (l : List ℕ) (t : ℕ) (table : List ℕ) (q : TokenRequest) (y : Typ
       → Stands test (t + tokenLifetime) (step l (token t table q) .after)
   unfolding step tokenAt
   token-leaves test g =
-      token-cases l t table q (λ (o : Outcome). o .answer .number ≡ done → Stands test (t + tokenLifetime) (o .ledger))
+      token-cases l t table q (λ (o : Outcome Answer). o .answer .number ≡ done → Stands test (t + tokenLifetime) (o .ledger))
       (λ why u e. absurd (number-refused why e))
       (λ ok e.
       let f = token-facts l t table q ok in

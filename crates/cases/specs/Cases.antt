@@ -178,7 +178,7 @@ answers x = numberIn (step (x .0) (x .1) .answer)
 
 -- the number answered; a byte; for a form what check 5 alone would give, 0 or 5; a number of blocks
 abbrev pub outcome : (v : Varied) → Input v → ℕ
-outcome (startLength n) l = start l .number
+outcome (startLength n) l = start l .answer
 outcome (startByte n i) l = getD (start l .ledger) i 0
 outcome (startOther n i) x = getD (start (x .0) .ledger) (x .1) 0
 outcome (decideTime a b) x = answers x

@@ -5,12 +5,13 @@ use Prim.Native.Nat.{ℕ}
 use mathlib.Core.Path.{_≡_}
 use mathlib.Core.List.{List}
 use Rattle.desk.specs.Requests.{PushRequest, DecideRequest, TokenRequest, ResourceRequest}
-use Rattle.desk.specs.Start.{leftAt, start}
-use Rattle.desk.specs.Push.{left, push}
-use Rattle.desk.specs.Decide.{leftBoth, decide}
+use Rattle.desk.specs.Outcome.{left, leftWith}
+use Rattle.desk.specs.Start.{start}
+use Rattle.desk.specs.Push.{push}
+use Rattle.desk.specs.Decide.{decide}
 use Rattle.desk.specs.Token.{token}
 use Rattle.desk.specs.Resource.{resource}
-use Rattle.desk.specs.Sweep.{leftSwept, sweep}
+use Rattle.desk.specs.Sweep.{sweep}
 use Rattle.desk.specs.declared.answer.Answer.{Answer}
 use Rattle.desk.specs.declared.answer.Decided.{Decided}
 use Rattle.desk.specs.declared.answer.Swept.{Swept}
@@ -41,10 +42,10 @@ pub record OneEach : Type 1 where
   -- where k loses nothing
   pub of-made : (A B : Type 0) (k : A → B) (back : B → A) → ((x : A) → back (k x) ≡ x) → (v : B) → OneOutcome (Made k v)
   -- the contracts of the six calls, word for word
-  pub start-one : (l : List ℕ) → OneOutcome (λ (x : ℕ × List ℕ). leftAt (x .0) (x .1) ≡ start l)
+  pub start-one : (l : List ℕ) → OneOutcome (λ (x : ℕ × List ℕ). left (x .0) (x .1) ≡ start l)
   pub push-one : (l : List ℕ) (t : ℕ) (table : List ℕ) (p : PushRequest) → OneOutcome (λ (x : Answer × List ℕ). left (x .0) (x .1) ≡ push l t table p)
   pub decide-one : (l : List ℕ) (t : ℕ) (d : DecideRequest) (out : List ℕ)
-      → OneOutcome (λ (x : Decided × (List ℕ × List ℕ)). leftBoth (x .0) (x .1 .0) (x .1 .1) ≡ decide l t d out)
+      → OneOutcome (λ (x : Decided × (List ℕ × List ℕ)). leftWith (x .0) (x .1 .0) (x .1 .1) ≡ decide l t d out)
   pub token-one : (l : List ℕ) (t : ℕ) (table : List ℕ) (q : TokenRequest) → OneOutcome (λ (x : Answer × List ℕ). left (x .0) (x .1) ≡ token l t table q)
   pub resource-one : (l : List ℕ) (t : ℕ) (q : ResourceRequest) → OneOutcome (λ (x : Answer × List ℕ). left (x .0) (x .1) ≡ resource l t q)
-  pub sweep-one : (l : List ℕ) (t : ℕ) → OneOutcome (λ (x : Swept × List ℕ). leftSwept (x .0) (x .1) ≡ sweep l t)
+  pub sweep-one : (l : List ℕ) (t : ℕ) → OneOutcome (λ (x : Swept × List ℕ). left (x .0) (x .1) ≡ sweep l t)

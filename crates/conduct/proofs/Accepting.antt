@@ -39,7 +39,7 @@ use Rattle.conduct.proofs.Readings.{time-says, known-is, is-known, redi
 
 -- ---- start
 
-pub start-accepted : (l : List ℕ) → ((start l) .number ≡ done) ↔ StartAccepted l
+pub start-accepted : (l : List ℕ) → ((start l) .answer ≡ done) ↔ StartAccepted l
 unfolding slots
 start-accepted l = (
   λ e.

@@ -29,12 +29,16 @@ use Rattle.upkeep.proofs.Searches.{first-in}
 use Rattle.desk.specs.Limits.{outputLeast}
 use Rattle.desk.specs.Answers.{done}
 use Rattle.desk.specs.Requests.{PushRequest, DecideRequest, TokenRequest, ResourceRequest}
-use Rattle.desk.specs.Push.{Outcome, pushRecord, pushAt, push}
-use Rattle.desk.specs.Decide.{Decision, referenceAt, handedOut, consentRecord, consentAt, declineAt, decideAt, decide}
+use Rattle.desk.specs.Outcome.{Outcome}
+use Rattle.desk.specs.Push.{pushRecord, pushAt, push}
+use Rattle.desk.specs.Decide.{referenceAt, handedOut, consentRecord, consentAt, declineAt, decideAt, decide}
 use Rattle.desk.specs.Token.{codeAt, tokenRecord, tokenAt, token}
 use Rattle.desk.specs.Resource.{resource}
-use Rattle.desk.specs.Sweep.{Sweeping, sweep}
+use Rattle.desk.specs.Sweep.{sweep}
 use Rattle.desk.proofs.Written.{timely-lt}
+use Rattle.desk.specs.declared.answer.Answer.{Answer}
+use Rattle.desk.specs.declared.answer.Decided.{Decided}
+use Rattle.desk.specs.declared.answer.Swept.{Swept}
 use Rattle.conduct.proofs.Turns.{number-refused}
 use Rattle.conduct.proofs.Rows.{push-cases, decide-cases, token-cases, resource-cases, sweep-cases}
 use Rattle.conduct.proofs.Facts.{PushFacts, push-facts, DecideFacts, decide-facts, TokenFacts, token-facts, resource-facts, sweep-facts}
@@ -120,7 +124,7 @@ module _ (l : List ℕ) (t : ℕ) (table : List ℕ) (p : PushRequest) where
   pub push-alone : (push l t table p) .answer .number ≡ done → OneRewritten t l ((push l t table p) .ledger) (place isFree (records l))
   unfolding pushAt
   push-alone =
-      push-cases l t table p (λ (o : Outcome). o .answer .number ≡ done → OneRewritten t l (o .ledger) free-place) (λ why u e. absurd (number-refused why e))
+      push-cases l t table p (λ (o : Outcome Answer). o .answer .number ≡ done → OneRewritten t l (o .ledger) free-place) (λ why u e. absurd (number-refused why e))
       (λ ok e.
       let f = push-facts l t table p ok in
       renumbered t l free-place (pushRecord l t table p (rec l free-place)) (push-inside f) (push-long f) (nextNumber l + 1) (timely-lt l t (f .in-time)))
@@ -129,7 +133,7 @@ module _ (l : List ℕ) (t : ℕ) (table : List ℕ) (p : PushRequest) where
   pub push-next : Octets l → (push l t table p) .answer .number ≡ done → nextNumber ((push l t table p) .ledger) ≡ nextNumber l + 1
   unfolding pushAt
   push-next o =
-      push-cases l t table p (λ (o : Outcome). o .answer .number ≡ done → nextNumber (o .ledger) ≡ nextNumber l + 1) (λ why u e. absurd (number-refused why e))
+      push-cases l t table p (λ (o : Outcome Answer). o .answer .number ≡ done → nextNumber (o .ledger) ≡ nextNumber l + 1) (λ why u e. absurd (number-refused why e))
       (λ ok e.
       let f = push-facts l t table p ok in
       let least = of-sound l (f .ledger-sound) .least in
@@ -147,7 +151,7 @@ module _ (l : List ℕ) (t : ℕ) (d : DecideRequest) (out : List ℕ) where
   consent-long f = length-consented _ _ _ (rec l (referenceAt l d)) ∙ rec-length l (referenceAt l d) (decide-inside f)
 
   -- what holds after a yes and after a no
-  pub either-way : (P : Decision → Type 0) → P (consentAt l t (d .holder) (d .fresh) out (referenceAt l d)) → P (declineAt l t (d .holder) out (referenceAt l d))
+  pub either-way : (P : Outcome Decided → Type 0) → P (consentAt l t (d .holder) (d .fresh) out (referenceAt l d)) → P (declineAt l t (d .holder) out (referenceAt l d))
       → P (decideAt l t d out (referenceAt l d))
   unfolding decideAt
   either-way P a b =
@@ -157,21 +161,21 @@ module _ (l : List ℕ) (t : ℕ) (d : DecideRequest) (out : List ℕ) where
   pub decide-alone : (decide l t d out) .answer .answer .number ≡ done → OneRewritten t l ((decide l t d out) .ledger) (referenceAt l d)
   unfolding consentAt declineAt
   decide-alone =
-      decide-cases l t d out (λ (o : Decision). o .answer .answer .number ≡ done → OneRewritten t l (o .ledger) (referenceAt l d))
+      decide-cases l t d out (λ (o : Outcome Decided). o .answer .answer .number ≡ done → OneRewritten t l (o .ledger) (referenceAt l d))
       (λ why u e. absurd (number-refused why e))
       (λ ok.
       let f = decide-facts l t d out ok in
-      either-way (λ (o : Decision). o .answer .answer .number ≡ done → OneRewritten t l (o .ledger) (referenceAt l d))
+      either-way (λ (o : Outcome Decided). o .answer .answer .number ≡ done → OneRewritten t l (o .ledger) (referenceAt l d))
       (λ e. rewritten t l (referenceAt l d) (consentRecord t (d .holder) (d .fresh) (rec l (referenceAt l d))) (decide-inside f) (consent-long f) (timely-lt l t (f .in-time)))
       (λ e. rewritten t l (referenceAt l d) free (decide-inside f) length-free (timely-lt l t (f .in-time))))
 
   pub decide-next : nextNumber ((decide l t d out) .ledger) ≡ nextNumber l
   unfolding consentAt declineAt
   decide-next =
-      decide-cases l t d out (λ (o : Decision). nextNumber (o .ledger) ≡ nextNumber l) (λ why u. refl)
+      decide-cases l t d out (λ (o : Outcome Decided). nextNumber (o .ledger) ≡ nextNumber l) (λ why u. refl)
       (λ ok.
       let f = decide-facts l t d out ok in
-      either-way (λ (o : Decision). nextNumber (o .ledger) ≡ nextNumber l)
+      either-way (λ (o : Outcome Decided). nextNumber (o .ledger) ≡ nextNumber l)
       (next-kept t l (referenceAt l d) (consentRecord t (d .holder) (d .fresh) (rec l (referenceAt l d))) (decide-inside f) (consent-long f))
       (next-kept t l (referenceAt l d) free (decide-inside f) length-free))
 
@@ -180,7 +184,7 @@ module _ (l : List ℕ) (t : ℕ) (d : DecideRequest) (out : List ℕ) where
   unfolding consentAt declineAt
   decide-output =
       decide-cases l t d out
-      (λ (o : Decision). o .answer .answer .number ≡ done → part (o .output) 0 outputLeast ≡ redirectField (rec l (referenceAt l d)))
+      (λ (o : Outcome Decided). o .answer .answer .number ≡ done → part (o .output) 0 outputLeast ≡ redirectField (rec l (referenceAt l d)))
       (λ why u e. absurd (number-refused why e))
       (λ ok.
       let f = decide-facts l t d out ok in
@@ -189,19 +193,19 @@ module _ (l : List ℕ) (t : ℕ) (d : DecideRequest) (out : List ℕ) where
       let m = rec-length l (referenceAt l d) (decide-inside f) in
       let w : length (redirectField r) ≡ 64 = part-length r 192 64 (omega arith) in
       let s : part (handedOut r out) 0 outputLeast ≡ redirectField r = put-same out 0 64 (redirectField r) w (omega arith) in
-      either-way (λ (o : Decision). o .answer .answer .number ≡ done → part (o .output) 0 outputLeast ≡ redirectField (rec l (referenceAt l d))) (λ e. s) (λ e. s))
+      either-way (λ (o : Outcome Decided). o .answer .answer .number ≡ done → part (o .output) 0 outputLeast ≡ redirectField (rec l (referenceAt l d))) (λ e. s) (λ e. s))
 
   pub decide-later : drop outputLeast ((decide l t d out) .output) ≡ drop outputLeast out
   unfolding consentAt declineAt
   decide-later =
-      decide-cases l t d out (λ (o : Decision). drop outputLeast (o .output) ≡ drop outputLeast out) (λ why u. refl)
+      decide-cases l t d out (λ (o : Outcome Decided). drop outputLeast (o .output) ≡ drop outputLeast out) (λ why u. refl)
       (λ ok.
       let f = decide-facts l t d out ok in
       let r = rec l (referenceAt l d) in
       let m = rec-length l (referenceAt l d) (decide-inside f) in
       let w : length (redirectField r) ≡ 64 = part-length r 192 64 (omega arith) in
       let s : drop outputLeast (handedOut r out) ≡ drop outputLeast out = drop-put out 0 (redirectField r) 64 (omega arith) in
-      either-way (λ (o : Decision). drop outputLeast (o .output) ≡ drop outputLeast out) s s)
+      either-way (λ (o : Outcome Decided). drop outputLeast (o .output) ≡ drop outputLeast out) s s)
 
 -- ---- token
 
@@ -216,7 +220,7 @@ module _ (l : List ℕ) (t : ℕ) (table : List ℕ) (q : TokenRequest) where
   pub token-alone : (token l t table q) .answer .number ≡ done → OneRewritten t l ((token l t table q) .ledger) (codeAt l q)
   unfolding tokenAt
   token-alone =
-      token-cases l t table q (λ (o : Outcome). o .answer .number ≡ done → OneRewritten t l (o .ledger) (codeAt l q)) (λ why u e. absurd (number-refused why e))
+      token-cases l t table q (λ (o : Outcome Answer). o .answer .number ≡ done → OneRewritten t l (o .ledger) (codeAt l q)) (λ why u e. absurd (number-refused why e))
       (λ ok e.
       let f = token-facts l t table q ok in
       rewritten t l (codeAt l q) (tokenRecord t q (rec l (codeAt l q))) (token-inside f) (token-long f) (timely-lt l t (f .in-time)))
@@ -224,7 +228,7 @@ module _ (l : List ℕ) (t : ℕ) (table : List ℕ) (q : TokenRequest) where
   pub token-next : nextNumber ((token l t table q) .ledger) ≡ nextNumber l
   unfolding tokenAt
   token-next =
-      token-cases l t table q (λ (o : Outcome). nextNumber (o .ledger) ≡ nextNumber l) (λ why u. refl)
+      token-cases l t table q (λ (o : Outcome Answer). nextNumber (o .ledger) ≡ nextNumber l) (λ why u. refl)
       (λ ok.
       let f = token-facts l t table q ok in
       next-kept t l (codeAt l q) (tokenRecord t q (rec l (codeAt l q))) (token-inside f) (token-long f))
@@ -242,7 +246,7 @@ pub record NoneRewritten (t : ℕ) (l m : List ℕ) : Type 0 where
 module _ (l : List ℕ) (t : ℕ) (q : ResourceRequest) where
   pub resource-alone : (resource l t q) .answer .number ≡ done → NoneRewritten t l ((resource l t q) .ledger)
   resource-alone =
-      resource-cases l t q (λ (o : Outcome). o .answer .number ≡ done → NoneRewritten t l (o .ledger)) (λ why u e. absurd (number-refused why e))
+      resource-cases l t q (λ (o : Outcome Answer). o .answer .number ≡ done → NoneRewritten t l (o .ledger)) (λ why u e. absurd (number-refused why e))
       (λ ok e.
       let f = resource-facts l t q ok in
       let least = of-sound l (f .ledger-sound) .least in
@@ -289,7 +293,7 @@ module _ (l : List ℕ) (t : ℕ) where
 
   pub sweep-alone : (sweep l t) .answer .number ≡ done → DueFreed t l ((sweep l t) .ledger)
   sweep-alone =
-      sweep-cases l t (λ (o : Sweeping). o .answer .number ≡ done → DueFreed t l (o .ledger)) (λ why u e. absurd (number-refused why e))
+      sweep-cases l t (λ (o : Outcome Swept). o .answer .number ≡ done → DueFreed t l (o .ledger)) (λ why u e. absurd (number-refused why e))
       (λ ok e.
       let f = sweep-facts l t ok in
       let least = of-sound l (f .ledger-sound) .least in
@@ -309,25 +313,25 @@ module _ (l : List ℕ) (t : ℕ) where
 pub push-unchanged : (l : List ℕ) (t : ℕ) (table : List ℕ) (p : PushRequest) → (push l t table p) .answer .number ≢ done → (push l t table p) .ledger ≡ l
 unfolding pushAt
 push-unchanged l t table p =
-    push-cases l t table p (λ (o : Outcome). o .answer .number ≢ done → o .ledger ≡ l) (λ why u n. refl) (λ ok n. absurd (n refl))
+    push-cases l t table p (λ (o : Outcome Answer). o .answer .number ≢ done → o .ledger ≡ l) (λ why u n. refl) (λ ok n. absurd (n refl))
 
 pub decide-unchanged : (l : List ℕ) (t : ℕ) (d : DecideRequest) (out : List ℕ) → (decide l t d out) .answer .answer .number ≢ done
     → ((decide l t d out) .ledger ≡ l) × ((decide l t d out) .output ≡ out)
 unfolding consentAt declineAt
 decide-unchanged l t d out =
-    decide-cases l t d out (λ (o : Decision). o .answer .answer .number ≢ done → (o .ledger ≡ l) × (o .output ≡ out)) (λ why u n. (refl, refl))
+    decide-cases l t d out (λ (o : Outcome Decided). o .answer .answer .number ≢ done → (o .ledger ≡ l) × (o .output ≡ out)) (λ why u n. (refl, refl))
     (λ ok.
-    either-way l t d out (λ (o : Decision). o .answer .answer .number ≢ done → (o .ledger ≡ l) × (o .output ≡ out)) (λ n. absurd (n refl)) (λ n. absurd (n refl)))
+    either-way l t d out (λ (o : Outcome Decided). o .answer .answer .number ≢ done → (o .ledger ≡ l) × (o .output ≡ out)) (λ n. absurd (n refl)) (λ n. absurd (n refl)))
 
 pub token-unchanged : (l : List ℕ) (t : ℕ) (table : List ℕ) (q : TokenRequest) → (token l t table q) .answer .number ≢ done → (token l t table q) .ledger ≡ l
 unfolding tokenAt
 token-unchanged l t table q =
-    token-cases l t table q (λ (o : Outcome). o .answer .number ≢ done → o .ledger ≡ l) (λ why u n. refl) (λ ok n. absurd (n refl))
+    token-cases l t table q (λ (o : Outcome Answer). o .answer .number ≢ done → o .ledger ≡ l) (λ why u n. refl) (λ ok n. absurd (n refl))
 
 pub resource-unchanged : (l : List ℕ) (t : ℕ) (q : ResourceRequest) → (resource l t q) .answer .number ≢ done → (resource l t q) .ledger ≡ l
 resource-unchanged l t q =
-    resource-cases l t q (λ (o : Outcome). o .answer .number ≢ done → o .ledger ≡ l) (λ why u n. refl) (λ ok n. absurd (n refl))
+    resource-cases l t q (λ (o : Outcome Answer). o .answer .number ≢ done → o .ledger ≡ l) (λ why u n. refl) (λ ok n. absurd (n refl))
 
 pub sweep-unchanged : (l : List ℕ) (t : ℕ) → (sweep l t) .answer .number ≢ done → (sweep l t) .ledger ≡ l
 sweep-unchanged l t =
-    sweep-cases l t (λ (o : Sweeping). o .answer .number ≢ done → o .ledger ≡ l) (λ why u n. refl) (λ ok n. absurd (n refl))
+    sweep-cases l t (λ (o : Outcome Swept). o .answer .number ≢ done → o .ledger ≡ l) (λ why u n. refl) (λ ok n. absurd (n refl))

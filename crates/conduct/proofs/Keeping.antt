@@ -28,14 +28,18 @@ use Rattle.clients.specs.Sound.{sound as tableSound}
 use Rattle.clients.proofs.Laws.{of-sound as of-table}
 use Rattle.desk.specs.Answers.{done, numberOf}
 use Rattle.desk.specs.Requests.{PushRequest, DecideRequest, TokenRequest, ResourceRequest}
-use Rattle.desk.specs.Push.{Outcome, pushRecord, pushAt, push}
-use Rattle.desk.specs.Decide.{Decision, referenceAt, consentRecord, consentAt, declineAt, decideAt, decide}
+use Rattle.desk.specs.Outcome.{Outcome, left}
+use Rattle.desk.specs.Push.{pushRecord, pushAt, push}
+use Rattle.desk.specs.Decide.{referenceAt, consentRecord, consentAt, declineAt, decideAt, decide}
 use Rattle.desk.specs.Token.{codeAt, tokenRecord, tokenAt, token}
 use Rattle.desk.specs.Resource.{resource}
-use Rattle.desk.specs.Sweep.{Sweeping, sweep}
-use Rattle.desk.specs.Start.{leftAt, start, fresh}
+use Rattle.desk.specs.Sweep.{sweep}
+use Rattle.desk.specs.Start.{start, fresh}
 use Rattle.desk.specs.declared.answer.Refusal.the-variants.{LedgerUnsound}
 use Rattle.desk.proofs.Written.{timely-lt}
+use Rattle.desk.specs.declared.answer.Answer.{Answer}
+use Rattle.desk.specs.declared.answer.Decided.{Decided}
+use Rattle.desk.specs.declared.answer.Swept.{Swept}
 use Rattle.conduct.proofs.Turns.{number-refused}
 use Rattle.conduct.proofs.Rows.{push-cases, decide-cases, token-cases, resource-cases, sweep-cases}
 use Rattle.conduct.proofs.Facts.{push-facts, DecideFacts, decide-facts, token-facts, resource-facts, sweep-facts}
@@ -74,7 +78,7 @@ module _ (l : List ℕ) (t : ℕ) (table : List ℕ) (p : PushRequest) where
   pub push-sound : sound l ≡ true → Octets l → PushTyped p → sound ((push l t table p) .ledger) ≡ true
   unfolding pushAt pushRecord
   push-sound s o y =
-      push-cases l t table p (λ (o : Outcome). sound (o .ledger) ≡ true) (λ why u. s)
+      push-cases l t table p (λ (o : Outcome Answer). sound (o .ledger) ≡ true) (λ why u. s)
       (λ ok.
       let f = push-facts l t table p ok in
       let a = first-in isFree l (f .room) in
@@ -91,7 +95,7 @@ module _ (l : List ℕ) (t : ℕ) (table : List ℕ) (p : PushRequest) where
   pub push-octets : Octets l → PushTyped p → Octets ((push l t table p) .ledger)
   unfolding pushAt pushRecord
   push-octets o y =
-      push-cases l t table p (λ (o : Outcome). Octets (o .ledger)) (λ why u. o)
+      push-cases l t table p (λ (o : Outcome Answer). Octets (o .ledger)) (λ why u. o)
       (λ ok.
       let f = push-facts l t table p ok in
       let k = place isFree (records l) in
@@ -130,7 +134,7 @@ module _ (l : List ℕ) (t : ℕ) (d : DecideRequest) (out : List ℕ) where
   pub decide-sound : sound l ≡ true → DecideTyped d → sound ((decide l t d out) .ledger) ≡ true
   unfolding decideAt
   decide-sound s y =
-      decide-cases l t d out (λ (o : Decision). sound (o .ledger) ≡ true) (λ why u. s)
+      decide-cases l t d out (λ (o : Outcome Decided). sound (o .ledger) ≡ true) (λ why u. s)
       (λ ok. let f = decide-facts l t d out ok in by (d .yes) (λ e. consent-sound e s y f) (decline-sound s f))
     where
       by : (b : Bool) → (b ≡ true → sound ((consentAt l t (d .holder) (d .fresh) out (referenceAt l d)) .ledger) ≡ true)
@@ -142,10 +146,10 @@ module _ (l : List ℕ) (t : ℕ) (d : DecideRequest) (out : List ℕ) where
   pub decide-octets : Octets l → DecideTyped d → Octets ((decide l t d out) .ledger)
   unfolding consentAt consentRecord declineAt
   decide-octets o y =
-      decide-cases l t d out (λ (o : Decision). Octets (o .ledger)) (λ why u. o)
+      decide-cases l t d out (λ (o : Outcome Decided). Octets (o .ledger)) (λ why u. o)
       (λ ok.
       let k = referenceAt l d in
-      either-way l t d out (λ (o : Decision). Octets (o .ledger))
+      either-way l t d out (λ (o : Outcome Decided). Octets (o .ledger))
       (octets-clock t _ (octets-with l k (consentRecord t (d .holder) (d .fresh) (rec l k)) o (octets-consented (t + codeLifetime) (d .holder) (d .fresh) (rec l k) (y .fresh-bytes) (octets-rec l k o))))
       (octets-clock t _ (octets-with l k free o octets-free)))
 
@@ -155,7 +159,7 @@ module _ (l : List ℕ) (t : ℕ) (table : List ℕ) (q : TokenRequest) where
   pub token-sound : sound l ≡ true → TokenTyped q → sound ((token l t table q) .ledger) ≡ true
   unfolding tokenAt tokenRecord
   token-sound s y =
-      token-cases l t table q (λ (o : Outcome). sound (o .ledger) ≡ true) (λ why u. s)
+      token-cases l t table q (λ (o : Outcome Answer). sound (o .ledger) ≡ true) (λ why u. s)
       (λ ok.
       let f = token-facts l t table q ok in
       let a = first-in (isCode (q .code) (q .client)) l (f .there) in
@@ -169,7 +173,7 @@ module _ (l : List ℕ) (t : ℕ) (table : List ℕ) (q : TokenRequest) where
   pub token-octets : Octets l → TokenTyped q → Octets ((token l t table q) .ledger)
   unfolding tokenAt tokenRecord
   token-octets o y =
-      token-cases l t table q (λ (o : Outcome). Octets (o .ledger)) (λ why u. o)
+      token-cases l t table q (λ (o : Outcome Answer). Octets (o .ledger)) (λ why u. o)
       (λ ok.
       let k = codeAt l q in
       octets-clock t _
@@ -180,40 +184,40 @@ module _ (l : List ℕ) (t : ℕ) (table : List ℕ) (q : TokenRequest) where
 module _ (l : List ℕ) (t : ℕ) (q : ResourceRequest) where
   pub resource-sound : sound l ≡ true → sound ((resource l t q) .ledger) ≡ true
   resource-sound s =
-      resource-cases l t q (λ (o : Outcome). sound (o .ledger) ≡ true) (λ why u. s)
+      resource-cases l t q (λ (o : Outcome Answer). sound (o .ledger) ≡ true) (λ why u. s)
       (λ ok. sound-clock t l s (timely-lt l t (resource-facts l t q ok .in-time)))
 
   pub resource-octets : Octets l → Octets ((resource l t q) .ledger)
-  resource-octets o = resource-cases l t q (λ (o : Outcome). Octets (o .ledger)) (λ why u. o) (λ ok. octets-clock t l o)
+  resource-octets o = resource-cases l t q (λ (o : Outcome Answer). Octets (o .ledger)) (λ why u. o) (λ ok. octets-clock t l o)
 
 -- ---- sweep
 
 module _ (l : List ℕ) (t : ℕ) where
   pub sweep-sound : sound l ≡ true → sound ((sweep l t) .ledger) ≡ true
   sweep-sound s =
-      sweep-cases l t (λ (o : Sweeping). sound (o .ledger) ≡ true) (λ why u. s)
+      sweep-cases l t (λ (o : Outcome Swept). sound (o .ledger) ≡ true) (λ why u. s)
       (λ ok. sound-clock t (swept t l) (sound-swept t l s) (timely-lt l t (sweep-facts l t ok .in-time)))
 
   pub sweep-octets : Octets l → Octets ((sweep l t) .ledger)
   sweep-octets o =
-      sweep-cases l t (λ (o : Sweeping). Octets (o .ledger)) (λ why u. o) (λ ok. octets-clock t (swept t l) (octets-swept t l o))
+      sweep-cases l t (λ (o : Outcome Swept). Octets (o .ledger)) (λ why u. o) (λ ok. octets-clock t (swept t l) (octets-swept t l o))
 
 -- ---- start, over any buffer whose length is right
 
-pub start-sound : (l : List ℕ) → (start l) .number ≡ done → sound ((start l) .ledger) ≡ true
+pub start-sound : (l : List ℕ) → (start l) .answer ≡ done → sound ((start l) .ledger) ≡ true
 unfolding start fresh
 start-sound l = by (sized l) refl
   where
-    by : (b : Bool) → sized l ≡ b → (cond b (leftAt done (fresh (length l))) (leftAt (numberOf LedgerUnsound) l)) .number ≡ done
-        → sound ((cond b (leftAt done (fresh (length l))) (leftAt (numberOf LedgerUnsound) l)) .ledger) ≡ true
+    by : (b : Bool) → sized l ≡ b → (cond b (left done (fresh (length l))) (left (numberOf LedgerUnsound) l)) .answer ≡ done
+        → sound ((cond b (left done (fresh (length l))) (left (numberOf LedgerUnsound) l)) .ledger) ≡ true
     by true p e = sound-started l p
     by false p e = absurd (number-refused LedgerUnsound e)
 
-pub start-octets : (l : List ℕ) → (start l) .number ≡ done → Octets ((start l) .ledger)
+pub start-octets : (l : List ℕ) → (start l) .answer ≡ done → Octets ((start l) .ledger)
 unfolding start fresh
 start-octets l = by (sized l)
   where
-    by : (b : Bool) → (cond b (leftAt done (fresh (length l))) (leftAt (numberOf LedgerUnsound) l)) .number ≡ done
-        → Octets ((cond b (leftAt done (fresh (length l))) (leftAt (numberOf LedgerUnsound) l)) .ledger)
+    by : (b : Bool) → (cond b (left done (fresh (length l))) (left (numberOf LedgerUnsound) l)) .answer ≡ done
+        → Octets ((cond b (left done (fresh (length l))) (left (numberOf LedgerUnsound) l)) .ledger)
     by true e = octets-started (length l)
     by false e = absurd (number-refused LedgerUnsound e)

@@ -15,12 +15,16 @@ use Rattle.ledger.specs.Sweep.{freed, swept}
 use Rattle.desk.specs.Answers.{numberOf, done, answerOf, refused, undecided, sweptOf, unswept}
 use Rattle.desk.specs.Checks.{Check, Verdict, accepted, stopped, first}
 use Rattle.desk.specs.Requests.{PushRequest, DecideRequest, TokenRequest, ResourceRequest}
-use Rattle.desk.specs.Push.{Outcome, left, concludes, pushChecks, pushAt, push}
-use Rattle.desk.specs.Decide.{Decision, leftBoth, concludesBoth, referenceAt, decideChecks, consentAt, declineAt, decideAt, decide}
-use Rattle.desk.specs.Token.{codeAt, tokenChecks, tokenAt, token}
-use Rattle.desk.specs.Resource.{tokenPlace, resourceChecks, readBy, look, resourceBy, resource}
-use Rattle.desk.specs.Sweep.{Sweeping, leftSwept, concludesSweep, sweepChecks, sweep}
-use Rattle.desk.specs.Start.{leftAt, start, fresh}
+use Rattle.desk.specs.Outcome.{Outcome, left, concludes}
+use Rattle.desk.specs.Push.{pushChecks, pushAt, pushLeaves, push}
+use Rattle.desk.specs.Decide.{decideLeaves, referenceAt, decideChecks, consentAt, declineAt, decideAt, decide}
+use Rattle.desk.specs.Token.{codeAt, tokenChecks, tokenAt, tokenLeaves, token}
+use Rattle.desk.specs.Resource.{tokenPlace, resourceChecks, readBy, look, resourceLeaves, resourceBy, resource}
+use Rattle.desk.specs.Sweep.{sweepChecks, sweepLeaves, sweep}
+use Rattle.desk.specs.Start.{start, fresh}
+use Rattle.desk.specs.declared.answer.Answer.{Answer}
+use Rattle.desk.specs.declared.answer.Decided.{Decided}
+use Rattle.desk.specs.declared.answer.Swept.{Swept}
 use Rattle.desk.specs.declared.answer.Refusal.{Refusal}
 use Rattle.desk.specs.declared.answer.Refusal.the-variants.{LedgerUnsound}
 use Rattle.conduct.proofs.Turns.{Passed, Turn, by-turns, numberBy, number-stopped, number-refused, passes-exactly, turns-exactly}
@@ -28,16 +32,16 @@ use Rattle.conduct.proofs.Turns.{Passed, Turn, by-turns, numberBy, numb
 -- ---- each call goes by its checks
 
 module _ (l : List ℕ) (t : ℕ) (table : List ℕ) (p : PushRequest) where
-  pub push-cases : (P : Outcome → Type 0) → ((why : Refusal) → Turn why (pushChecks l t table p) → P (left (refused why) l))
+  pub push-cases : (P : Outcome Answer → Type 0) → ((why : Refusal) → Turn why (pushChecks l t table p) → P (pushLeaves l why))
       → (Passed (pushChecks l t table p) → P (pushAt l t table p (place isFree (records l)))) → P (push l t table p)
   unfolding push
-  push-cases P f g = by-turns (pushChecks l t table p) (λ (v : Verdict). P (concludes v l (pushAt l t table p (place isFree (records l))))) f g
+  push-cases P f g = by-turns (pushChecks l t table p) (λ (v : Verdict). P (concludes v (pushLeaves l) (pushAt l t table p (place isFree (records l))))) f g
 
   push-number : (push l t table p) .answer .number ≡ numberBy (first (pushChecks l t table p))
   unfolding push pushAt
   push-number = by (first (pushChecks l t table p))
     where
-      by : (v : Verdict) → (concludes v l (pushAt l t table p (place isFree (records l)))) .answer .number ≡ numberBy v
+      by : (v : Verdict) → (concludes v (pushLeaves l) (pushAt l t table p (place isFree (records l)))) .answer .number ≡ numberBy v
       by accepted = refl
       by (stopped why) = refl
 
@@ -50,13 +54,13 @@ module _ (l : List ℕ) (t : ℕ) (table : List ℕ) (p : PushRequest) where
   push-turn = turns-exactly _ (pushChecks l t table p) push-number
 
 module _ (l : List ℕ) (t : ℕ) (d : DecideRequest) (out : List ℕ) where
-  pub decide-cases : (P : Decision → Type 0)
-      → ((why : Refusal) → Turn why (decideChecks l t d out (referenceAt l d)) → P (leftBoth (undecided why) l out))
+  pub decide-cases : (P : Outcome Decided → Type 0)
+      → ((why : Refusal) → Turn why (decideChecks l t d out (referenceAt l d)) → P (decideLeaves l out why))
       → (Passed (decideChecks l t d out (referenceAt l d)) → P (decideAt l t d out (referenceAt l d))) → P (decide l t d out)
   unfolding decide
   decide-cases P f g =
       by-turns (decideChecks l t d out (referenceAt l d))
-      (λ (v : Verdict). P (concludesBoth v l out (decideAt l t d out (referenceAt l d)))) f g
+      (λ (v : Verdict). P (concludes v (decideLeaves l out) (decideAt l t d out (referenceAt l d)))) f g
 
   decide-number : (decide l t d out) .answer .answer .number ≡ numberBy (first (decideChecks l t d out (referenceAt l d)))
   unfolding decide decideAt consentAt declineAt
@@ -66,7 +70,7 @@ module _ (l : List ℕ) (t : ℕ) (d : DecideRequest) (out : List ℕ) where
       at true = refl
       at false = refl
 
-      by : (v : Verdict) → (concludesBoth v l out (decideAt l t d out (referenceAt l d))) .answer .answer .number ≡ numberBy v
+      by : (v : Verdict) → (concludes v (decideLeaves l out) (decideAt l t d out (referenceAt l d))) .answer .answer .number ≡ numberBy v
       by accepted = at (d .yes)
       by (stopped why) = refl
 
@@ -77,17 +81,17 @@ module _ (l : List ℕ) (t : ℕ) (d : DecideRequest) (out : List ℕ) where
   decide-turn = turns-exactly _ (decideChecks l t d out (referenceAt l d)) decide-number
 
 module _ (l : List ℕ) (t : ℕ) (table : List ℕ) (q : TokenRequest) where
-  pub token-cases : (P : Outcome → Type 0) → ((why : Refusal) → Turn why (tokenChecks l t table q (codeAt l q)) → P (left (refused why) l))
+  pub token-cases : (P : Outcome Answer → Type 0) → ((why : Refusal) → Turn why (tokenChecks l t table q (codeAt l q)) → P (tokenLeaves l why))
       → (Passed (tokenChecks l t table q (codeAt l q)) → P (tokenAt l t q (codeAt l q))) → P (token l t table q)
   unfolding token
   token-cases P f g =
-      by-turns (tokenChecks l t table q (codeAt l q)) (λ (v : Verdict). P (concludes v l (tokenAt l t q (codeAt l q)))) f g
+      by-turns (tokenChecks l t table q (codeAt l q)) (λ (v : Verdict). P (concludes v (tokenLeaves l) (tokenAt l t q (codeAt l q)))) f g
 
   token-number : (token l t table q) .answer .number ≡ numberBy (first (tokenChecks l t table q (codeAt l q)))
   unfolding token tokenAt
   token-number = by (first (tokenChecks l t table q (codeAt l q)))
     where
-      by : (v : Verdict) → (concludes v l (tokenAt l t q (codeAt l q))) .answer .number ≡ numberBy v
+      by : (v : Verdict) → (concludes v (tokenLeaves l) (tokenAt l t q (codeAt l q))) .answer .number ≡ numberBy v
       by accepted = refl
       by (stopped why) = refl
 
@@ -98,7 +102,7 @@ module _ (l : List ℕ) (t : ℕ) (table : List ℕ) (q : TokenRequest) where
   token-turn = turns-exactly _ (tokenChecks l t table q (codeAt l q)) token-number
 
 module _ (l : List ℕ) (t : ℕ) (q : ResourceRequest) where
-  pub resource-cases : (P : Outcome → Type 0) → ((why : Refusal) → Turn why (resourceChecks l t q (tokenPlace l q)) → P (left (refused why) l))
+  pub resource-cases : (P : Outcome Answer → Type 0) → ((why : Refusal) → Turn why (resourceChecks l t q (tokenPlace l q)) → P (resourceLeaves l why))
       → (Passed (resourceChecks l t q (tokenPlace l q)) → P (left (answerOf (rec l (tokenPlace l q))) (withClock t l))) → P (resource l t q)
   unfolding resource look
   resource-cases P f g =
@@ -119,18 +123,18 @@ module _ (l : List ℕ) (t : ℕ) (q : ResourceRequest) where
   resource-turn = turns-exactly _ (resourceChecks l t q (tokenPlace l q)) resource-number
 
 module _ (l : List ℕ) (t : ℕ) where
-  pub sweep-cases : (P : Sweeping → Type 0) → ((why : Refusal) → Turn why (sweepChecks l t) → P (leftSwept (unswept why) l))
-      → (Passed (sweepChecks l t) → P (leftSwept (sweptOf (freed t l)) (withClock t (swept t l)))) → P (sweep l t)
+  pub sweep-cases : (P : Outcome Swept → Type 0) → ((why : Refusal) → Turn why (sweepChecks l t) → P (sweepLeaves l why))
+      → (Passed (sweepChecks l t) → P (left (sweptOf (freed t l)) (withClock t (swept t l)))) → P (sweep l t)
   unfolding sweep
   sweep-cases P f g =
       by-turns (sweepChecks l t)
-      (λ (v : Verdict). P (concludesSweep v l (leftSwept (sweptOf (freed t l)) (withClock t (swept t l))))) f g
+      (λ (v : Verdict). P (concludes v (sweepLeaves l) (left (sweptOf (freed t l)) (withClock t (swept t l))))) f g
 
   sweep-number : (sweep l t) .answer .number ≡ numberBy (first (sweepChecks l t))
   unfolding sweep
   sweep-number = by (first (sweepChecks l t))
     where
-      by : (v : Verdict) → (concludesSweep v l (leftSwept (sweptOf (freed t l)) (withClock t (swept t l)))) .answer .number ≡ numberBy v
+      by : (v : Verdict) → (concludes v (sweepLeaves l) (left (sweptOf (freed t l)) (withClock t (swept t l)))) .answer .number ≡ numberBy v
       by accepted = refl
       by (stopped why) = refl
 
@@ -142,11 +146,11 @@ module _ (l : List ℕ) (t : ℕ) where
 
 -- start has one check: the length
 module _ (l : List ℕ) where
-  pub start-passed : ((start l) .number ≡ done) ↔ (sized l ≡ true)
+  pub start-passed : ((start l) .answer ≡ done) ↔ (sized l ≡ true)
   unfolding start
   start-passed = by (sized l)
     where
-      by : (b : Bool) → ((cond b (leftAt done (fresh (length l))) (leftAt (numberOf LedgerUnsound) l)) .number ≡ done) ↔ (b ≡ true)
+      by : (b : Bool) → ((cond b (left done (fresh (length l))) (left (numberOf LedgerUnsound) l)) .answer ≡ done) ↔ (b ≡ true)
       by true = (λ e. refl, λ e. refl)
       by false = (λ e. absurd (number-refused LedgerUnsound e), λ e. absurd (false≢true e))
 
@@ -206,55 +210,55 @@ pub sweep-numbers : (l : List ℕ) (t : ℕ) → isOneOf (0 ∷ 1 ∷ 2 ∷ []) 
 unfolding sweepChecks
 sweep-numbers l t = listed _ (sweepChecks l t) (sweep-number l t)
 
-pub start-numbers : (l : List ℕ) → isOneOf (0 ∷ 1 ∷ []) ((start l) .number) ≡ true
+pub start-numbers : (l : List ℕ) → isOneOf (0 ∷ 1 ∷ []) ((start l) .answer) ≡ true
 unfolding start
 start-numbers l = by (sized l)
   where
-    by : (b : Bool) → isOneOf (0 ∷ 1 ∷ []) ((cond b (leftAt done (fresh (length l))) (leftAt (numberOf LedgerUnsound) l)) .number) ≡ true
+    by : (b : Bool) → isOneOf (0 ∷ 1 ∷ []) ((cond b (left done (fresh (length l))) (left (numberOf LedgerUnsound) l)) .answer) ≡ true
     by true = refl
     by false = refl
 
 -- ---- "A refusal has zeros beside its number and changes no lent byte, clock included."
 
 pub push-refusal : (l : List ℕ) (t : ℕ) (table : List ℕ) (p : PushRequest) (why : Refusal)
-    → (push l t table p) .answer .number ≡ numberOf why → push l t table p ≡ left (refused why) l
+    → (push l t table p) .answer .number ≡ numberOf why → push l t table p ≡ pushLeaves l why
 unfolding push
 push-refusal l t table p why e =
-    ap (λ (v : Verdict). concludes v l (pushAt l t table p (place isFree (records l))))
+    ap (λ (v : Verdict). concludes v (pushLeaves l) (pushAt l t table p (place isFree (records l))))
     (number-stopped (first (pushChecks l t table p)) why (sym (push-number l t table p) ∙ e))
 
 pub decide-refusal : (l : List ℕ) (t : ℕ) (d : DecideRequest) (out : List ℕ) (why : Refusal)
-    → (decide l t d out) .answer .answer .number ≡ numberOf why → decide l t d out ≡ leftBoth (undecided why) l out
+    → (decide l t d out) .answer .answer .number ≡ numberOf why → decide l t d out ≡ decideLeaves l out why
 unfolding decide
 decide-refusal l t d out why e =
-    ap (λ (v : Verdict). concludesBoth v l out (decideAt l t d out (referenceAt l d)))
+    ap (λ (v : Verdict). concludes v (decideLeaves l out) (decideAt l t d out (referenceAt l d)))
     (number-stopped (first (decideChecks l t d out (referenceAt l d))) why (sym (decide-number l t d out) ∙ e))
 
 pub token-refusal : (l : List ℕ) (t : ℕ) (table : List ℕ) (q : TokenRequest) (why : Refusal)
-    → (token l t table q) .answer .number ≡ numberOf why → token l t table q ≡ left (refused why) l
+    → (token l t table q) .answer .number ≡ numberOf why → token l t table q ≡ tokenLeaves l why
 unfolding token
 token-refusal l t table q why e =
-    ap (λ (v : Verdict). concludes v l (tokenAt l t q (codeAt l q)))
+    ap (λ (v : Verdict). concludes v (tokenLeaves l) (tokenAt l t q (codeAt l q)))
     (number-stopped (first (tokenChecks l t table q (codeAt l q))) why (sym (token-number l t table q) ∙ e))
 
 pub resource-refusal : (l : List ℕ) (t : ℕ) (q : ResourceRequest) (why : Refusal)
-    → (resource l t q) .answer .number ≡ numberOf why → resource l t q ≡ left (refused why) l
+    → (resource l t q) .answer .number ≡ numberOf why → resource l t q ≡ resourceLeaves l why
 unfolding resource look
 resource-refusal l t q why e =
     ap (λ (v : Verdict). resourceBy (readBy v (rec l (tokenPlace l q))) l t)
     (number-stopped (first (resourceChecks l t q (tokenPlace l q))) why (sym (resource-number l t q) ∙ e))
 
-pub sweep-refusal : (l : List ℕ) (t : ℕ) (why : Refusal) → (sweep l t) .answer .number ≡ numberOf why → sweep l t ≡ leftSwept (unswept why) l
+pub sweep-refusal : (l : List ℕ) (t : ℕ) (why : Refusal) → (sweep l t) .answer .number ≡ numberOf why → sweep l t ≡ sweepLeaves l why
 unfolding sweep
 sweep-refusal l t why e =
-    ap (λ (v : Verdict). concludesSweep v l (leftSwept (sweptOf (freed t l)) (withClock t (swept t l))))
+    ap (λ (v : Verdict). concludes v (sweepLeaves l) (left (sweptOf (freed t l)) (withClock t (swept t l))))
     (number-stopped (first (sweepChecks l t)) why (sym (sweep-number l t) ∙ e))
 
-pub start-refusal : (l : List ℕ) → (start l) .number ≡ numberOf LedgerUnsound → (start l) .ledger ≡ l
+pub start-refusal : (l : List ℕ) → (start l) .answer ≡ numberOf LedgerUnsound → (start l) .ledger ≡ l
 unfolding start
 start-refusal l = by (sized l)
   where
-    by : (b : Bool) → (cond b (leftAt done (fresh (length l))) (leftAt (numberOf LedgerUnsound) l)) .number ≡ numberOf LedgerUnsound
-        → (cond b (leftAt done (fresh (length l))) (leftAt (numberOf LedgerUnsound) l)) .ledger ≡ l
+    by : (b : Bool) → (cond b (left done (fresh (length l))) (left (numberOf LedgerUnsound) l)) .answer ≡ numberOf LedgerUnsound
+        → (cond b (left done (fresh (length l))) (left (numberOf LedgerUnsound) l)) .ledger ≡ l
     by true e = absurd (number-refused LedgerUnsound (sym e))
     by false e = refl

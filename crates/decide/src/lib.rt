@@ -11,7 +11,8 @@ ghost use Rattle.ledger.specs.Checks.{taken};
 ghost use Rattle.ledger.specs.Write.{consented, free};
 ghost use Rattle.desk.specs.Answers.{answerOf, answerNo};
 ghost use Rattle.desk.specs.Told.{toldIf};
-ghost use Rattle.desk.specs.Decide.{leftBoth, decide, handedOut, consentAt, declineAt};
+ghost use Rattle.desk.specs.Outcome.{leftWith};
+ghost use Rattle.desk.specs.Decide.{decide, handedOut, consentAt, declineAt};
 use desk::answer::Answer;
 use desk::answer::Decided;
 use desk::answer::Refusal;
@@ -81,7 +82,7 @@ fn consent(
     out: &mut [u8],
 ) -> Decided
     requires { ⌜ (k < slots (now ledger)) × (time < clockLimit) ⌝ }
-    ensures { λ r. ⌜ leftBoth r (now (ledger .exit)) (now (out .exit)) ≡ consentAt (now (ledger .entry)) time holder (now (fresh .entry)) (now (out .entry)) k ⌝ }
+    ensures { λ r. ⌜ leftWith r (now (ledger .exit)) (now (out .exit)) ≡ consentAt (now (ledger .entry)) time holder (now (fresh .entry)) (now (out .entry)) k ⌝ }
 {
     let a = Ledger::HEAD + k * Ledger::RECORD;
     let length = redirect_length(&ledger[a..a + Ledger::RECORD]);
@@ -99,7 +100,7 @@ fn consent(
 // No: the same where the record is freed.
 fn refuse(ledger: &mut [u8], k: usize, time: u64, holder: u64, out: &mut [u8]) -> Decided
     requires { ⌜ k < slots (now ledger) ⌝ }
-    ensures { λ r. ⌜ leftBoth r (now (ledger .exit)) (now (out .exit)) ≡ declineAt (now (ledger .entry)) time holder (now (out .entry)) k ⌝ }
+    ensures { λ r. ⌜ leftWith r (now (ledger .exit)) (now (out .exit)) ≡ declineAt (now (ledger .entry)) time holder (now (out .entry)) k ⌝ }
 {
     let a = Ledger::HEAD + k * Ledger::RECORD;
     let length = redirect_length(&ledger[a..a + Ledger::RECORD]);
@@ -119,7 +120,7 @@ pub fn decide(
     fresh: &[u8; 32],
     out: &mut [u8],
 ) -> Decided
-    ensures { λ r. ⌜ leftBoth r (now (ledger .exit)) (now (out .exit)) ≡ decide (now (ledger .entry)) time (record { reference = now (reference .entry); client = now (client .entry); yes = yes; holder = holder; fresh = now (fresh .entry) }) (now (out .entry)) ⌝ }
+    ensures { λ r. ⌜ leftWith r (now (ledger .exit)) (now (out .exit)) ≡ decide (now (ledger .entry)) time (record { reference = now (reference .entry); client = now (client .entry); yes = yes; holder = holder; fresh = now (fresh .entry) }) (now (out .entry)) ⌝ }
 {
     let Soundness::Sound(_) = soundness::check(ledger) else {
         return Decided::refused(Refusal::LedgerUnsound);

@@ -22,13 +22,12 @@ use Rattle.ledger.proofs.Records.{whole-part, length-records}
 use Rattle.ledger.proofs.Told.{found-told, found-place}
 use Rattle.desk.specs.Answers.{answerOf, answerNo, decided}
 use Rattle.desk.specs.Requests.{PushRequest, DecideRequest, TokenRequest}
-use Rattle.desk.specs.Push.{Outcome, left, pushAt, pushRecord}
-use Rattle.desk.specs.Decide.{Decision, leftBoth, referenceAt, handedOut, consentRecord, consentAt, declineAt, decideAt}
+use Rattle.desk.specs.Outcome.{Outcome, left, leftWith}
+use Rattle.desk.specs.Push.{pushAt, pushRecord}
+use Rattle.desk.specs.Decide.{referenceAt, handedOut, consentRecord, consentAt, declineAt, decideAt}
 use Rattle.desk.specs.Token.{codeAt, tokenRecord, tokenAt}
-use Rattle.desk.specs.Sweep.{Sweeping, leftSwept}
 use Rattle.desk.specs.declared.answer.Answer.{Answer}
 use Rattle.desk.specs.declared.answer.Decided.{Decided}
-use Rattle.desk.specs.declared.answer.Swept.{Swept}
 
 -- a record that comes back from its loan
 pub lent-back : (l : List ℕ) (k : ℕ) (x y : List ℕ) → x ≡ y → splice l (32 + k * 256) (32 + k * 256 + 256 - (32 + k * 256)) x ≡ withRecord l k y
@@ -79,7 +78,7 @@ module _ (l : List ℕ) (t k : ℕ) (inside : k < slots l) where
       → n ≡ redirectLength lent → o ≡ handedOut lent out
       → x ≡ consented (t + codeLifetime) who fresh lent → a ≡ answerOf x
       → z ≡ withClock t (splice l start (start + 256 - start) x) → d ≡ decided a n
-      → leftBoth d z o ≡ consentAt l t who fresh out k
+      → leftWith d z o ≡ consentAt l t who fresh out k
   unfolding consentAt consentRecord
   consent-written who fresh out x z o n a d hn ho hx ha hz hd =
       let e1 : x ≡ consented (t + codeLifetime) who fresh (rec l k) = hx ∙ rw lent-is in
@@ -90,7 +89,7 @@ module _ (l : List ℕ) (t k : ℕ) (inside : k < slots l) where
       → n ≡ redirectLength lent → o ≡ handedOut lent out
       → x ≡ free → a ≡ answerNo (grant lent) who
       → z ≡ withClock t (splice l start (start + 256 - start) x) → d ≡ decided a n
-      → leftBoth d z o ≡ declineAt l t who out k
+      → leftWith d z o ≡ declineAt l t who out k
   unfolding declineAt
   decline-written who out x z o n a d hn ho hx ha hz hd =
       let e2 : z ≡ withClock t (withRecord l k free) = hz ∙ ap (withClock t) (lent-back l k x free hx) in
@@ -138,14 +137,8 @@ decide-no l t d out k y e = rw e (by (d .yes) y)
 
 -- ---- a refusal, as the code returns it
 
-pub refuses : {a b : Answer} {l : List ℕ} {o : Outcome} → a ≡ b → o ≡ left b l → left a l ≡ o
+pub refuses : {A : Type 0} {a b : A} {l out : List ℕ} {o : Outcome A} → a ≡ b → o ≡ leftWith b l out → leftWith a l out ≡ o
 refuses e f = rw e (sym f)
-
-pub refuses-both : {a b : Decided} {l out : List ℕ} {o : Decision} → a ≡ b → o ≡ leftBoth b l out → leftBoth a l out ≡ o
-refuses-both e f = rw e (sym f)
-
-pub refuses-swept : {a b : Swept} {l : List ℕ} {o : Sweeping} → a ≡ b → o ≡ leftSwept b l → leftSwept a l ≡ o
-refuses-swept e f = rw e (sym f)
 
 -- a sound ledger is short
 pub sound-short : (l : List ℕ) → sound l ≡ true → length l ≤ 51232

@@ -12,23 +12,12 @@ use Rattle.ledger.specs.Checks.{isReference, expired, taken}
 use Rattle.ledger.specs.Write.{consented, free}
 use Rattle.desk.specs.Limits.{outputLeast}
 use Rattle.desk.specs.Answers.{answerOf, answerNo, decided, undecided}
-use Rattle.desk.specs.Checks.{Check, _when_, Verdict, accepted, stopped, first, begins}
+use Rattle.desk.specs.Checks.{Check, _when_, first, begins}
+use Rattle.desk.specs.Outcome.{Outcome, leftWith, concludes}
 use Rattle.desk.specs.Requests.{DecideRequest}
 use Rattle.desk.specs.declared.answer.Decided.{Decided}
+use Rattle.desk.specs.declared.answer.Refusal.{Refusal}
 use Rattle.desk.specs.declared.answer.Refusal.the-variants.{OutputShort, NoReference, RecordExpired, NoHolder, FreshTaken}
-
--- what decide leaves: its answer, the ledger's bytes, and the output's
-pub record Decision : Type 0 where
-  pub answer : Decided
-  pub ledger : List ℕ
-  pub output : List ℕ
-
-abbrev pub leftBoth : Decided → List ℕ → List ℕ → Decision
-leftBoth a l out = record { answer = a; ledger = l; output = out }
-
-abbrev pub concludesBoth : Verdict → List ℕ → List ℕ → Decision → Decision
-concludesBoth accepted l out o = o
-concludesBoth (stopped why) l out o = leftBoth (undecided why) l out
 
 -- where the record with this reference and client id is
 abbrev pub referenceAt : List ℕ → DecideRequest → ℕ
@@ -53,18 +42,23 @@ handedOut r out = put out 0 (redirectField r)
 unfoldable pub consentRecord : ℕ → ℕ → List ℕ → List ℕ → List ℕ
 consentRecord t who fresh r = consented (t + codeLifetime) who fresh r
 
-unfoldable pub consentAt : List ℕ → ℕ → ℕ → List ℕ → List ℕ → ℕ → Decision
+unfoldable pub consentAt : List ℕ → ℕ → ℕ → List ℕ → List ℕ → ℕ → Outcome Decided
 consentAt l t who fresh out k =
-    leftBoth (decided (answerOf (consentRecord t who fresh (rec l k))) (redirectLength (rec l k)))
+    leftWith (decided (answerOf (consentRecord t who fresh (rec l k))) (redirectLength (rec l k)))
     (withClock t (withRecord l k (consentRecord t who fresh (rec l k)))) (handedOut (rec l k) out)
 
 -- "On no, the record becomes free."
-unfoldable pub declineAt : List ℕ → ℕ → ℕ → List ℕ → ℕ → Decision
+unfoldable pub declineAt : List ℕ → ℕ → ℕ → List ℕ → ℕ → Outcome Decided
 declineAt l t who out k =
-    leftBoth (decided (answerNo (grant (rec l k)) who) (redirectLength (rec l k))) (withClock t (withRecord l k free)) (handedOut (rec l k) out)
+    leftWith (decided (answerNo (grant (rec l k)) who) (redirectLength (rec l k))) (withClock t (withRecord l k free)) (handedOut (rec l k) out)
 
-unfoldable pub decideAt : List ℕ → ℕ → DecideRequest → List ℕ → ℕ → Decision
+unfoldable pub decideAt : List ℕ → ℕ → DecideRequest → List ℕ → ℕ → Outcome Decided
 decideAt l t d out k = cond (d .yes) (consentAt l t (d .holder) (d .fresh) out k) (declineAt l t (d .holder) out k)
 
-unfoldable pub decide : List ℕ → ℕ → DecideRequest → List ℕ → Decision
-decide l t d out = concludesBoth (first (decideChecks l t d out (referenceAt l d))) l out (decideAt l t d out (referenceAt l d))
+-- each row: "A refusal has zeros beside its number and changes no lent byte, clock included."
+abbrev pub decideLeaves : List ℕ → List ℕ → Refusal → Outcome Decided
+decideLeaves l out why = leftWith (undecided why) l out
+
+unfoldable pub decide : List ℕ → ℕ → DecideRequest → List ℕ → Outcome Decided
+decide l t d out =
+    concludes (first (decideChecks l t d out (referenceAt l d))) (decideLeaves l out) (decideAt l t d out (referenceAt l d))

@@ -2,6 +2,7 @@
 pub mod Limits
 pub mod Answers
 pub mod Checks
+pub mod Outcome
 pub mod Requests
 pub mod Told
 pub mod Start

@@ -13,9 +13,11 @@ use Rattle.clients.specs.Fields.{client, permitted}
 use Rattle.clients.specs.Sound.{sound as tableSound}
 use Rattle.clients.specs.Known.{isKnown, placeOf}
 use Rattle.desk.specs.Answers.{answerOf, refused}
-use Rattle.desk.specs.Checks.{Check, _when_, Verdict, accepted, stopped, first, begins, scopeFits}
+use Rattle.desk.specs.Checks.{Check, _when_, first, begins, scopeFits}
+use Rattle.desk.specs.Outcome.{Outcome, left, concludes}
 use Rattle.desk.specs.Requests.{PushRequest}
 use Rattle.desk.specs.declared.answer.Answer.{Answer}
+use Rattle.desk.specs.declared.answer.Refusal.{Refusal}
 use Rattle.desk.specs.declared.answer.Refusal.the-variants.{
   TableUnsound,
   ClientUnknown,
@@ -25,19 +27,6 @@ use Rattle.desk.specs.declared.answer.Refusal.the-variants.{
   LedgerFull,
   NumbersSpent,
 }
-
--- what a call leaves: its answer, and the ledger's bytes
-pub record Outcome : Type 0 where
-  pub answer : Answer
-  pub ledger : List ℕ
-
-abbrev pub left : Answer → List ℕ → Outcome
-left a l = record { answer = a; ledger = l }
-
--- "A refusal has zeros beside its number and changes no lent byte, clock included."
-abbrev pub concludes : Verdict → List ℕ → Outcome → Outcome
-concludes accepted l o = o
-concludes (stopped why) l o = left (refused why) l
 
 -- the client's record, found by its id
 abbrev pub asker : List ℕ → PushRequest → List ℕ
@@ -66,10 +55,14 @@ pushRecord l t table p r =
     pushed (p .scope) (nextNumber l) (t + lifetime (asker table p)) (p .client) (p .challenge) (p .fresh) (p .redirect) r
 
 -- "The next number rises by one." "the clock becomes now"
-unfoldable pub pushAt : List ℕ → ℕ → List ℕ → PushRequest → ℕ → Outcome
+unfoldable pub pushAt : List ℕ → ℕ → List ℕ → PushRequest → ℕ → Outcome Answer
 pushAt l t table p k =
     left (answerOf (pushRecord l t table p (rec l k)))
     (withClock t (withNext (nextNumber l + 1) (withRecord l k (pushRecord l t table p (rec l k)))))
 
-unfoldable pub push : List ℕ → ℕ → List ℕ → PushRequest → Outcome
-push l t table p = concludes (first (pushChecks l t table p)) l (pushAt l t table p (place isFree (records l)))
+-- each row: "A refusal has zeros beside its number and changes no lent byte, clock included."
+abbrev pub pushLeaves : List ℕ → Refusal → Outcome Answer
+pushLeaves l why = left (refused why) l
+
+unfoldable pub push : List ℕ → ℕ → List ℕ → PushRequest → Outcome Answer
+push l t table p = concludes (first (pushChecks l t table p)) (pushLeaves l) (pushAt l t table p (place isFree (records l)))

@@ -9,8 +9,10 @@ use Rattle.ledger.specs.Fields.{records, rec, scope, holder, boundKey, withCloc
 use Rattle.ledger.specs.Checks.{isToken, expired}
 use Rattle.desk.specs.Answers.{answerOf, refused}
 use Rattle.desk.specs.Checks.{Check, _when_, Verdict, accepted, stopped, first, begins, scopeFits}
-use Rattle.desk.specs.Push.{Outcome, left}
+use Rattle.desk.specs.Outcome.{Outcome, left}
 use Rattle.desk.specs.Requests.{ResourceRequest}
+use Rattle.desk.specs.declared.answer.Answer.{Answer}
+use Rattle.desk.specs.declared.answer.Refusal.{Refusal}
 use Rattle.desk.specs.declared.answer.Refusal.the-variants.{ScopeRefused, RecordExpired, NoToken, KeyDiffers, HolderDiffers}
 use Rattle.desk.specs.declared.answer.Reading.{Reading}
 use Rattle.desk.specs.declared.answer.Reading.the-variants.{Granted, Refused}
@@ -38,10 +40,14 @@ readBy (stopped why) r = Refused why
 unfoldable pub look : List ℕ → ℕ → ResourceRequest → Reading
 look l t q = readBy (first (resourceChecks l t q (tokenPlace l q))) (rec l (tokenPlace l q))
 
--- the call: "the clock becomes now" where the reading is granted
-abbrev pub resourceBy : Reading → List ℕ → ℕ → Outcome
-resourceBy (Granted a) l t = left a (withClock t l)
-resourceBy (Refused why) l t = left (refused why) l
+-- each row: "A refusal has zeros beside its number and changes no lent byte, clock included."
+abbrev pub resourceLeaves : List ℕ → Refusal → Outcome Answer
+resourceLeaves l why = left (refused why) l
 
-unfoldable pub resource : List ℕ → ℕ → ResourceRequest → Outcome
+-- the call: "the clock becomes now" where the reading is granted
+abbrev pub resourceBy : Reading → List ℕ → ℕ → Outcome Answer
+resourceBy (Granted a) l t = left a (withClock t l)
+resourceBy (Refused why) l t = resourceLeaves l why
+
+unfoldable pub resource : List ℕ → ℕ → ResourceRequest → Outcome Answer
 resource l t q = resourceBy (look l t q) l t

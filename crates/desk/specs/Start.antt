@@ -7,19 +7,13 @@ use Rattle.octets.specs.Parts.{blank}
 use Rattle.ledger.specs.Fields.{withNext}
 use Rattle.ledger.specs.Sound.{sized}
 use Rattle.desk.specs.Answers.{numberOf, done}
+use Rattle.desk.specs.Outcome.{Outcome, left}
 use Rattle.desk.specs.declared.answer.Refusal.the-variants.{LedgerUnsound}
-
--- "Start answers only its number."
-pub record Started : Type 0 where
-  pub number : ℕ
-  pub ledger : List ℕ
-
-abbrev pub leftAt : ℕ → List ℕ → Started
-leftAt n l = record { number = n; ledger = l }
 
 -- the bytes that start writes over a buffer of n bytes
 unfoldable pub fresh : ℕ → List ℕ
 fresh n = withNext 1 (blank n)
 
-unfoldable pub start : List ℕ → Started
-start l = cond (sized l) (leftAt done (fresh (length l))) (leftAt (numberOf LedgerUnsound) l)
+-- "Start answers only its number."
+unfoldable pub start : List ℕ → Outcome ℕ
+start l = cond (sized l) (left done (fresh (length l))) (left (numberOf LedgerUnsound) l)

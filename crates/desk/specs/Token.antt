@@ -13,10 +13,12 @@ use Rattle.ledger.specs.Write.{redeemed}
 use Rattle.ledger.specs.declared.state.State.the-variants.{Redeemed}
 use Rattle.clients.specs.Sound.{sound as tableSound}
 use Rattle.clients.specs.Known.{isKnown}
-use Rattle.desk.specs.Answers.{answerOf}
+use Rattle.desk.specs.Answers.{answerOf, refused}
 use Rattle.desk.specs.Checks.{Check, _when_, first, begins}
-use Rattle.desk.specs.Push.{Outcome, left, concludes}
+use Rattle.desk.specs.Outcome.{Outcome, left, concludes}
 use Rattle.desk.specs.Requests.{TokenRequest}
+use Rattle.desk.specs.declared.answer.Answer.{Answer}
+use Rattle.desk.specs.declared.answer.Refusal.{Refusal}
 use Rattle.desk.specs.declared.answer.Refusal.the-variants.{
   TableUnsound,
   ClientUnknown,
@@ -52,8 +54,12 @@ tokenChecks l t table q k =
 unfoldable pub tokenRecord : ℕ → TokenRequest → List ℕ → List ℕ
 tokenRecord t q r = redeemed (t + tokenLifetime) (q .fresh) (q .presented) r
 
-unfoldable pub tokenAt : List ℕ → ℕ → TokenRequest → ℕ → Outcome
+unfoldable pub tokenAt : List ℕ → ℕ → TokenRequest → ℕ → Outcome Answer
 tokenAt l t q k = left (answerOf (tokenRecord t q (rec l k))) (withClock t (withRecord l k (tokenRecord t q (rec l k))))
 
-unfoldable pub token : List ℕ → ℕ → List ℕ → TokenRequest → Outcome
-token l t table q = concludes (first (tokenChecks l t table q (codeAt l q))) l (tokenAt l t q (codeAt l q))
+-- each row: "A refusal has zeros beside its number and changes no lent byte, clock included."
+abbrev pub tokenLeaves : List ℕ → Refusal → Outcome Answer
+tokenLeaves l why = left (refused why) l
+
+unfoldable pub token : List ℕ → ℕ → List ℕ → TokenRequest → Outcome Answer
+token l t table q = concludes (first (tokenChecks l t table q (codeAt l q))) (tokenLeaves l) (tokenAt l t q (codeAt l q))

@@ -11,11 +11,10 @@ use Rattle.octets.proofs.Parts.{put-splice, part-length}
 use Rattle.desk.specs.declared.answer.Answer.{Answer}
 use Rattle.desk.specs.declared.answer.Decided.{Decided}
 use Rattle.desk.specs.declared.answer.Swept.{Swept}
-use Rattle.desk.specs.Push.{Outcome, left}
+use Rattle.desk.specs.Outcome.{Outcome, left, leftWith}
 use Rattle.desk.specs.Limits.{outputLeast}
 use Rattle.desk.specs.Requests.{DecideRequest}
-use Rattle.desk.specs.Decide.{leftBoth, decide}
-use Rattle.desk.specs.Sweep.{Sweeping, leftSwept}
+use Rattle.desk.specs.Decide.{decide}
 use Rattle.frames.specs.Answers.{answerBytes, decidedBytes, sweptBytes}
 use Rattle.frames.specs.Serve.{written, ofOutcome, ofDecision, ofSweeping}
 
@@ -35,14 +34,14 @@ put-front l a xs y h e =
     rw (e, put-splice l a xs h, ← append-assoc (take a l) xs (drop (length xs) (drop a l))) (take-at (take a l ++ xs) (drop (length xs) (drop a l)) (a + length xs) k)
 
 -- a call's answer and ledger, as bytes
-pub by-outcome : {a : Answer} {l b : List ℕ} {o : Outcome} → left a l ≡ o → b ≡ answerBytes a → written l b ≡ ofOutcome o
+pub by-outcome : {a : Answer} {l b : List ℕ} {o : Outcome Answer} → left a l ≡ o → b ≡ answerBytes a → written l b ≡ ofOutcome o
 by-outcome {a} {l} {b} {o} e h = ap (written l) h ∙ ap ofOutcome e
 
-pub by-decision : (k : List ℕ) (t : ℕ) (q : DecideRequest) {a : Decided} {l b out p : List ℕ} → leftBoth a l out ≡ decide k t q p → p ≡ blank outputLeast
+pub by-decision : (k : List ℕ) (t : ℕ) (q : DecideRequest) {a : Decided} {l b out p : List ℕ} → leftWith a l out ≡ decide k t q p → p ≡ blank outputLeast
     → b ≡ decidedBytes a out → written l b ≡ ofDecision (decide k t q (blank outputLeast))
 by-decision k t q {a} {l} {b} {out} {p} e g h = ap (written l) h ∙ ap ofDecision (e ∙ ap (decide k t q) g)
 
-pub by-sweeping : {a : Swept} {l b : List ℕ} {o : Sweeping} → leftSwept a l ≡ o → b ≡ sweptBytes a → written l b ≡ ofSweeping o
+pub by-sweeping : {a : Swept} {l b : List ℕ} {o : Outcome Swept} → left a l ≡ o → b ≡ sweptBytes a → written l b ≡ ofSweeping o
 by-sweeping {a} {l} {b} {o} e h = ap (written l) h ∙ ap ofSweeping e
 
 -- a part is no longer than the whole, and as long as it says where there is room

@@ -12,7 +12,8 @@ use Rattle.octets.proofs.Parts.{put-splice, part-length, length-put, length-bla
 use Rattle.ledger.specs.Sound.{sized}
 use Rattle.desk.specs.Answers.{done, numberOf}
 use Rattle.desk.specs.declared.answer.Refusal.the-variants.{LedgerUnsound, TableUnsound}
-use Rattle.desk.specs.Start.{Started, leftAt, start, fresh}
+use Rattle.desk.specs.Outcome.{Outcome, left}
+use Rattle.desk.specs.Start.{start, fresh}
 use Rattle.frames.specs.declared.kind.Kind.{Kind}
 use Rattle.frames.specs.Hex.{between}
 use Rattle.frames.specs.Kinds.{kindOf, least}
@@ -73,18 +74,18 @@ sized-of l s h k e =
     let c : (length l - 32) % 256 ≡ 0 = omega arith in
     rw (le-leb 288 (length l) a, le-leb (length l) 51232 b, eq-eqb ((length l - 32) % 256) 0 c)
 
-start-is : (l : List ℕ) → sized l ≡ true → start l ≡ leftAt done (fresh (length l))
+start-is : (l : List ℕ) → sized l ≡ true → start l ≡ left done (fresh (length l))
 unfolding start
 start-is l e = rw e
 
 pub start-done : (f l : List ℕ) (m s : ℕ) {k : ℕ} {x a : List ℕ} → s ≡ slotCount f → 1 ≤ s → s ≤ 200 → length l ≡ 51232
-    → leftAt k x ≡ start (take (32 + s * 256) l) → a ≡ numberBytes k → filled (32 + s * 256) (x ++ drop (32 + s * 256) l) a ≡ fill (started f (take m l)) l
+    → left k x ≡ start (take (32 + s * 256) l) → a ≡ numberBytes k → filled (32 + s * 256) (x ++ drop (32 + s * 256) l) a ≡ fill (started f (take m l)) l
 unfolding started fill
 start-done f l m s {k} {x} {a} g h i j e q =
     let n : length (take (32 + s * 256) l) ≡ 32 + s * 256 = length-take-le (32 + s * 256) l (omega arith) in
-    let b : leftAt k x ≡ leftAt done (fresh (32 + s * 256)) = e ∙ start-is (take (32 + s * 256) l) (sized-of (take (32 + s * 256) l) s h i n) ∙ ap (λ (v : ℕ). leftAt done (fresh v)) n in
-    let c : x ≡ fresh (32 + s * 256) = ap (λ (o : Started). o .ledger) b in
-    let d : k ≡ done = ap (λ (o : Started). o .number) b in
+    let b : left k x ≡ left done (fresh (32 + s * 256)) = e ∙ start-is (take (32 + s * 256) l) (sized-of (take (32 + s * 256) l) s h i n) ∙ ap (λ (v : ℕ). left done (fresh v)) n in
+    let c : x ≡ fresh (32 + s * 256) = ap (λ (o : Outcome ℕ). o .ledger) b in
+    let d : k ≡ done = ap (λ (o : Outcome ℕ). o .answer) b in
     let o = length-fresh (32 + s * 256) in
     rw (← g, inside 1 200 s h i, q, d, c, o, laid-part l (fresh (32 + s * 256)) (32 + s * 256) o (omega arith))
 

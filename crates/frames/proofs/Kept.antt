@@ -23,11 +23,12 @@ use Rattle.desk.specs.declared.answer.Reading.{Reading}
 use Rattle.desk.specs.declared.answer.Reading.the-variants.{Granted, Refused}
 use Rattle.desk.specs.Checks.{Check, _when_, Verdict, accepted, stopped, first}
 use Rattle.desk.specs.Requests.{PushRequest, DecideRequest, TokenRequest, ResourceRequest}
-use Rattle.desk.specs.Push.{Outcome, concludes, push, pushChecks, pushAt, pushRecord}
-use Rattle.desk.specs.Decide.{Decision, concludesBoth, decide, decideChecks, decideAt, consentAt, declineAt, consentRecord, referenceAt}
-use Rattle.desk.specs.Token.{token, tokenChecks, tokenAt, tokenRecord, codeAt}
+use Rattle.desk.specs.Outcome.{Outcome, concludes}
+use Rattle.desk.specs.Push.{push, pushLeaves, pushChecks, pushAt, pushRecord}
+use Rattle.desk.specs.Decide.{decide, decideLeaves, decideChecks, decideAt, consentAt, declineAt, consentRecord, referenceAt}
+use Rattle.desk.specs.Token.{token, tokenChecks, tokenAt, tokenLeaves, tokenRecord, codeAt}
 use Rattle.desk.specs.Resource.{resource, resourceBy, look}
-use Rattle.desk.specs.Sweep.{Sweeping, concludesSweep, sweep, sweepChecks}
+use Rattle.desk.specs.Sweep.{sweep, sweepChecks, sweepLeaves}
 use Rattle.frames.specs.declared.kind.Kind.{Kind}
 use Rattle.frames.specs.declared.kind.Kind.the-variants.{Start, Push, Decide, Token, Resource, Sweep, Client, NoFrame}
 use Rattle.frames.specs.Limits.{ledgerMost, tableMost}
@@ -62,17 +63,10 @@ inside q l e = rw (← length-records l) (place-lt q (records l) e)
 
 -- ---- a call's ledger is as long as it was
 
-concluded : (v : Verdict) (l : List ℕ) (o : Outcome) → (v ≡ accepted → length (o .ledger) ≡ length l) → length (concludes v l o .ledger) ≡ length l
-concluded accepted l o f = f refl
-concluded (stopped why) l o f = refl
-
-concluded-both : (v : Verdict) (l out : List ℕ) (o : Decision) → (v ≡ accepted → length (o .ledger) ≡ length l) → length (concludesBoth v l out o .ledger) ≡ length l
-concluded-both accepted l out o f = f refl
-concluded-both (stopped why) l out o f = refl
-
-concluded-sweep : (v : Verdict) (l : List ℕ) (o : Sweeping) → length (o .ledger) ≡ length l → length (concludesSweep v l o .ledger) ≡ length l
-concluded-sweep accepted l o e = e
-concluded-sweep (stopped why) l o e = refl
+concluded : {A : Type 0} (v : Verdict) (l : List ℕ) (leaves : Refusal → Outcome A) (o : Outcome A) → ((why : Refusal) → length (leaves why .ledger) ≡ length l)
+    → (v ≡ accepted → length (o .ledger) ≡ length l) → length (concludes v leaves o .ledger) ≡ length l
+concluded accepted l leaves o r f = f refl
+concluded (stopped why) l leaves o r f = r why
 
 module _ (l : List ℕ) (t : ℕ) (table : List ℕ) (p : PushRequest) where
   push-inside : first (pushChecks l t table p) ≡ accepted → place isFree (records l) < slots l
@@ -90,7 +84,7 @@ module _ (l : List ℕ) (t : ℕ) (table : List ℕ) (p : PushRequest) where
   pub push-length : length (push l t table p .ledger) ≡ length l
   unfolding push
   push-length =
-      concluded (first (pushChecks l t table p)) l (pushAt l t table p (place isFree (records l))) (λ e. push-at (place isFree (records l)) (push-inside e))
+      concluded (first (pushChecks l t table p)) l (pushLeaves l) (pushAt l t table p (place isFree (records l))) (λ why. refl) (λ e. push-at (place isFree (records l)) (push-inside e))
 
 module _ (l : List ℕ) (t : ℕ) (d : DecideRequest) (out : List ℕ) where
   decide-inside : first (decideChecks l t d out (referenceAt l d)) ≡ accepted → referenceAt l d < slots l
@@ -120,7 +114,7 @@ module _ (l : List ℕ) (t : ℕ) (d : DecideRequest) (out : List ℕ) where
   pub decide-length : length (decide l t d out .ledger) ≡ length l
   unfolding decide
   decide-length =
-      concluded-both (first (decideChecks l t d out (referenceAt l d))) l out (decideAt l t d out (referenceAt l d)) (λ e. decide-at (referenceAt l d) (decide-inside e))
+      concluded (first (decideChecks l t d out (referenceAt l d))) l (decideLeaves l out) (decideAt l t d out (referenceAt l d)) (λ why. refl) (λ e. decide-at (referenceAt l d) (decide-inside e))
 
 module _ (l : List ℕ) (t : ℕ) (table : List ℕ) (q : TokenRequest) where
   token-inside : first (tokenChecks l t table q (codeAt l q)) ≡ accepted → codeAt l q < slots l
@@ -140,7 +134,7 @@ module _ (l : List ℕ) (t : ℕ) (table : List ℕ) (q : TokenRequest) where
   pub token-length : length (token l t table q .ledger) ≡ length l
   unfolding token
   token-length =
-      concluded (first (tokenChecks l t table q (codeAt l q))) l (tokenAt l t q (codeAt l q)) (λ e. token-at (codeAt l q) (token-inside e))
+      concluded (first (tokenChecks l t table q (codeAt l q))) l (tokenLeaves l) (tokenAt l t q (codeAt l q)) (λ why. refl) (λ e. token-at (codeAt l q) (token-inside e))
 
 by-reading : (r : Reading) (l : List ℕ) (t : ℕ) → length (resourceBy r l t .ledger) ≡ length l
 by-reading (Granted a) l t = simp length-put
@@ -156,7 +150,7 @@ swept-length t l = length-to t l (slots l) (omega arith)
 
 pub sweep-length : (l : List ℕ) (t : ℕ) → length (sweep l t .ledger) ≡ length l
 unfolding sweep
-sweep-length l t = concluded-sweep (first (sweepChecks l t)) l _ (simp length-put (swept-length t l))
+sweep-length l t = concluded (first (sweepChecks l t)) l (sweepLeaves l) _ (λ why. refl) (λ e. simp length-put (swept-length t l))
 
 -- ---- a frame keeps within the largest size
 

@@ -9,13 +9,17 @@ use Rattle.ledger.specs.Limits.{headSize, recordSize, recordsLeast, recordsMost
 use Rattle.clients.specs.Limits.{clientSize}
 use Rattle.desk.specs.Limits.{outputLeast}
 use Rattle.desk.specs.Answers.{numberOf, done}
+use Rattle.desk.specs.declared.answer.Answer.{Answer}
+use Rattle.desk.specs.declared.answer.Decided.{Decided}
+use Rattle.desk.specs.declared.answer.Swept.{Swept}
 use Rattle.desk.specs.declared.answer.Refusal.the-variants.{LedgerUnsound, TableUnsound}
 use Rattle.desk.specs.Start.{fresh}
-use Rattle.desk.specs.Push.{Outcome, push}
-use Rattle.desk.specs.Decide.{Decision, decide}
+use Rattle.desk.specs.Outcome.{Outcome}
+use Rattle.desk.specs.Push.{push}
+use Rattle.desk.specs.Decide.{decide}
 use Rattle.desk.specs.Token.{token}
 use Rattle.desk.specs.Resource.{resource}
-use Rattle.desk.specs.Sweep.{Sweeping, sweep}
+use Rattle.desk.specs.Sweep.{sweep}
 use Rattle.frames.specs.declared.kind.Kind.{Kind}
 use Rattle.frames.specs.declared.kind.Kind.the-variants.{Start, Push, Decide, Token, Resource, Sweep, Client, NoFrame}
 use Rattle.frames.specs.Limits.{tableMost}
@@ -50,13 +54,13 @@ pub record Written : Type 0 where
 abbrev pub written : List ℕ → List ℕ → Written
 written bs a = record { bytes = bs; answer = a }
 
-abbrev pub ofOutcome : Outcome → Written
+abbrev pub ofOutcome : Outcome Answer → Written
 ofOutcome o = written (o .ledger) (answerBytes (o .answer))
 
-abbrev pub ofDecision : Decision → Written
+abbrev pub ofDecision : Outcome Decided → Written
 ofDecision o = written (o .ledger) (decidedBytes (o .answer) (o .output))
 
-abbrev pub ofSweeping : Sweeping → Written
+abbrev pub ofSweeping : Outcome Swept → Written
 ofSweeping o = written (o .ledger) (sweptBytes (o .answer))
 
 unfoldable pub pushed : List ℕ → List ℕ → List ℕ → Written

@@ -2,11 +2,12 @@
 ghost use mathlib.Core.Path.{_≡_};
 ghost use Prim.Native.Nat.{_≤_};
 ghost use lib.ListN.{length};
-ghost use Rattle.desk.specs.Push.{left, push};
-ghost use Rattle.desk.specs.Decide.{leftBoth, decide};
+ghost use Rattle.desk.specs.Outcome.{left, leftWith};
+ghost use Rattle.desk.specs.Push.{push};
+ghost use Rattle.desk.specs.Decide.{decide};
 ghost use Rattle.desk.specs.Token.{token};
 ghost use Rattle.desk.specs.Resource.{resource};
-ghost use Rattle.desk.specs.Sweep.{leftSwept, sweep};
+ghost use Rattle.desk.specs.Sweep.{sweep};
 ghost use Rattle.frames.specs.Kinds.{width};
 ghost use Rattle.frames.specs.Kinds.{push as pushRow, decide as decideRow, token as tokenRow, resource as resourceRow};
 ghost use Rattle.frames.specs.Calls.{time, pushRequest, decideRequest, tokenRequest, resourceRequest};
@@ -65,7 +66,7 @@ pub fn push(f: &[u8], ledger: &mut [u8], table: &[u8]) -> Answer
 
 pub fn decide(f: &[u8], ledger: &mut [u8], out: &mut [u8]) -> Decided
     requires { ⌜ width decideRow ≤ length (now f) ⌝ }
-    ensures { λ r. ⌜ leftBoth r (now (ledger .exit)) (now (out .exit)) ≡ decide (now (ledger .entry)) (time (now (f .entry))) (decideRequest (now (f .entry))) (now (out .entry)) ⌝ }
+    ensures { λ r. ⌜ leftWith r (now (ledger .exit)) (now (out .exit)) ≡ decide (now (ledger .entry)) (time (now (f .entry))) (decideRequest (now (f .entry))) (now (out .entry)) ⌝ }
 {
     let client = id(cut(f, Decide::CLIENT, 16));
     let reference = value(cut(f, Decide::REFERENCE, 32));
@@ -121,7 +122,7 @@ pub fn resource(f: &[u8], ledger: &mut [u8]) -> Answer
 }
 
 pub fn sweep(f: &[u8], ledger: &mut [u8]) -> Swept
-    ensures { λ r. ⌜ leftSwept r (now (ledger .exit)) ≡ sweep (now (ledger .entry)) (time (now (f .entry))) ⌝ }
+    ensures { λ r. ⌜ left r (now (ledger .exit)) ≡ sweep (now (ledger .entry)) (time (now (f .entry))) ⌝ }
 {
     sweep::sweep(ledger, read64(from(f, Sweep::TIME)))
 }

@@ -1,12 +1,13 @@
 // Front: the six calls for a web front, exported to C under the names that include/perdigolh.h declares. It rests on the six calls and on desk: each function hands on
 // what it is lent and answers the desk's answer in a struct that C can read. Its contract is the desk's equation, read through that struct.
 ghost use mathlib.Core.Path.{_≡_};
-ghost use Rattle.desk.specs.Start.{start, leftAt};
-ghost use Rattle.desk.specs.Push.{push, left};
-ghost use Rattle.desk.specs.Decide.{decide, leftBoth};
+ghost use Rattle.desk.specs.Outcome.{left, leftWith};
+ghost use Rattle.desk.specs.Start.{start};
+ghost use Rattle.desk.specs.Push.{push};
+ghost use Rattle.desk.specs.Decide.{decide};
 ghost use Rattle.desk.specs.Token.{token};
 ghost use Rattle.desk.specs.Resource.{resource};
-ghost use Rattle.desk.specs.Sweep.{sweep, leftSwept};
+ghost use Rattle.desk.specs.Sweep.{sweep};
 ghost use Rattle.front.specs.Seen.{asAnswer, asDecided, asSwept};
 ghost use Rattle.front.specs.Consent.{consents};
 use answer::Answer;
@@ -19,7 +20,7 @@ pub mod choice;
 
 #[no_mangle]
 pub extern "C" fn perdigolh_start(ledger: &mut [u8]) -> u8
-    ensures { λ r. ⌜ leftAt r (now (ledger .exit)) ≡ start (now (ledger .entry)) ⌝ }
+    ensures { λ r. ⌜ left r (now (ledger .exit)) ≡ start (now (ledger .entry)) ⌝ }
 {
     start::start(ledger)
 }
@@ -62,7 +63,7 @@ pub extern "C" fn perdigolh_decide(
     fresh: &[u8; 32],
     output: &mut [u8],
 ) -> Decided
-    ensures { λ r. ⌜ leftBoth (asDecided r) (now (ledger .exit)) (now (output .exit)) ≡ decide (now (ledger .entry)) time (record { reference = now (reference .entry); client = now (client .entry); yes = consents yes; holder = holder; fresh = now (fresh .entry) }) (now (output .entry)) ⌝ }
+    ensures { λ r. ⌜ leftWith (asDecided r) (now (ledger .exit)) (now (output .exit)) ≡ decide (now (ledger .entry)) time (record { reference = now (reference .entry); client = now (client .entry); yes = consents yes; holder = holder; fresh = now (fresh .entry) }) (now (output .entry)) ⌝ }
 {
     let choice = Choice::consents(yes);
     Decided::of(decide::decide(
@@ -120,7 +121,7 @@ pub extern "C" fn perdigolh_resource(
 
 #[no_mangle]
 pub extern "C" fn perdigolh_sweep(ledger: &mut [u8], time: u64) -> Swept
-    ensures { λ r. ⌜ leftSwept (asSwept r) (now (ledger .exit)) ≡ sweep (now (ledger .entry)) time ⌝ }
+    ensures { λ r. ⌜ left (asSwept r) (now (ledger .exit)) ≡ sweep (now (ledger .entry)) time ⌝ }
 {
     Swept::of(sweep::sweep(ledger, time))
 }

@@ -15,11 +15,15 @@ use Rattle.ledger.specs.Sweep.{freed, swept as sweptLedger}
 use Rattle.desk.specs.Answers.{answerOf, numberOf, refused, undecided, unswept, sweptOf}
 use Rattle.desk.specs.Checks.{Check}
 use Rattle.desk.specs.Requests.{DecideRequest}
-use Rattle.desk.specs.Push.{Outcome, pushChecks, pushAt}
-use Rattle.desk.specs.Decide.{Decision, decideChecks, decideAt, referenceAt, consentAt, declineAt}
+use Rattle.desk.specs.Outcome.{Outcome}
+use Rattle.desk.specs.Push.{pushChecks, pushAt}
+use Rattle.desk.specs.Decide.{decideChecks, decideAt, referenceAt, consentAt, declineAt}
 use Rattle.desk.specs.Token.{tokenChecks, tokenAt, codeAt}
 use Rattle.desk.specs.Resource.{resourceChecks, tokenPlace}
-use Rattle.desk.specs.Sweep.{Sweeping, sweepChecks}
+use Rattle.desk.specs.Sweep.{sweepChecks}
+use Rattle.desk.specs.declared.answer.Answer.{Answer}
+use Rattle.desk.specs.declared.answer.Decided.{Decided}
+use Rattle.desk.specs.declared.answer.Swept.{Swept}
 use Rattle.desk.specs.declared.answer.Refusal.{Refusal}
 use Rattle.desk.specs.declared.answer.Refusal.the-variants.{LedgerUnsound}
 use Rattle.conduct.proofs.Turns.{Passed, Turn, number-refused}
@@ -71,27 +75,27 @@ pub step-cases : (P : Step → Type 0) (l : List ℕ) (c : Call)
     → P (step l c)
 unfolding step
 step-cases P l (push t table p) r a =
-    push-cases l t table p (λ (o : Outcome). P (made (push t table p) l (answered (o .answer)) (o .ledger))) (λ why u. r why) a
+    push-cases l t table p (λ (o : Outcome Answer). P (made (push t table p) l (answered (o .answer)) (o .ledger))) (λ why u. r why) a
 step-cases P l (decide t d out) r a =
-    decide-cases l t d out (λ (o : Decision). P (made (decide t d out) l (decided (o .answer) (o .output)) (o .ledger))) (λ why u. r why) a
+    decide-cases l t d out (λ (o : Outcome Decided). P (made (decide t d out) l (decided (o .answer) (o .output)) (o .ledger))) (λ why u. r why) a
 step-cases P l (token t table q) r a =
-    token-cases l t table q (λ (o : Outcome). P (made (token t table q) l (answered (o .answer)) (o .ledger))) (λ why u. r why) a
+    token-cases l t table q (λ (o : Outcome Answer). P (made (token t table q) l (answered (o .answer)) (o .ledger))) (λ why u. r why) a
 step-cases P l (resource t q) r a =
-    resource-cases l t q (λ (o : Outcome). P (made (resource t q) l (answered (o .answer)) (o .ledger))) (λ why u. r why) a
-step-cases P l (sweep t) r a = sweep-cases l t (λ (o : Sweeping). P (made (sweep t) l (swept (o .answer)) (o .ledger))) (λ why u. r why) a
+    resource-cases l t q (λ (o : Outcome Answer). P (made (resource t q) l (answered (o .answer)) (o .ledger))) (λ why u. r why) a
+step-cases P l (sweep t) r a = sweep-cases l t (λ (o : Outcome Swept). P (made (sweep t) l (swept (o .answer)) (o .ledger))) (λ why u. r why) a
 
 -- no row of the table has number 0
 pub refused-not : (why : Refusal) → eqb (numberOf why) 0 ≡ false
 refused-not why = ne-eqb (numberOf why) 0 (number-refused why)
 
 -- an accepted decide, by yes and by no
-abbrev pub consenting : List ℕ → ℕ → DecideRequest → List ℕ → Decision
+abbrev pub consenting : List ℕ → ℕ → DecideRequest → List ℕ → Outcome Decided
 consenting l t d out = consentAt l t (d .holder) (d .fresh) out (referenceAt l d)
 
-abbrev pub declining : List ℕ → ℕ → DecideRequest → List ℕ → Decision
+abbrev pub declining : List ℕ → ℕ → DecideRequest → List ℕ → Outcome Decided
 declining l t d out = declineAt l t (d .holder) out (referenceAt l d)
 
-abbrev pub deciding : List ℕ → ℕ → DecideRequest → List ℕ → Decision → Step
+abbrev pub deciding : List ℕ → ℕ → DecideRequest → List ℕ → Outcome Decided → Step
 deciding l t d out o = made (decide t d out) l (decided (o .answer) (o .output)) (o .ledger)
 
 pub decide-branch : (P : Step → Type 0) (l : List ℕ) (t : ℕ) (d : DecideRequest) (out : List ℕ)
@@ -100,7 +104,7 @@ pub decide-branch : (P : Step → Type 0) (l : List ℕ) (t : ℕ) (d : DecideRe
     → P (acceptance l (decide t d out))
 decide-branch P l t d out y n = go (d .yes) refl
   where
-    by : (x : Decision) → decideAt l t d out (referenceAt l d) ≡ x → P (deciding l t d out x) → P (deciding l t d out (decideAt l t d out (referenceAt l d)))
+    by : (x : Outcome Decided) → decideAt l t d out (referenceAt l d) ≡ x → P (deciding l t d out x) → P (deciding l t d out (decideAt l t d out (referenceAt l d)))
     by x e h = rw e h
 
     go : (b : Bool) → d .yes ≡ b → P (acceptance l (decide t d out))

@@ -14,7 +14,8 @@ use Rattle.desk.specs.declared.answer.Decided.{Decided}
 use Rattle.desk.specs.declared.answer.Swept.{Swept}
 use Rattle.desk.specs.Checks.{Verdict, accepted, stopped, first}
 use Rattle.desk.specs.Requests.{DecideRequest}
-use Rattle.desk.specs.Decide.{Decision, concludesBoth, decide, decideChecks, decideAt, consentAt, declineAt, referenceAt}
+use Rattle.desk.specs.Outcome.{Outcome, concludes}
+use Rattle.desk.specs.Decide.{decide, decideLeaves, decideChecks, decideAt, consentAt, declineAt, referenceAt}
 use Rattle.frames.specs.declared.kind.Kind.{Kind}
 use Rattle.frames.specs.declared.kind.Kind.the-variants.{Start, Push, Decide, Token, Resource, Sweep, Client, NoFrame}
 use Rattle.frames.specs.Limits.{answerMost, answerLine, tableMost}
@@ -48,7 +49,7 @@ module _ (l : List ℕ) (t : ℕ) (d : DecideRequest) (out : List ℕ) where
       elim (d .yes) as (λ (b : Bool). length (cond b (consentAt l t (d .holder) (d .fresh) out k) (declineAt l t (d .holder) out k) .output) ≡ length out)
       [ true ↦ length-put out 0 _ | false ↦ length-put out 0 _ ]
 
-  concluded : (v : Verdict) (o : Decision) → length (o .output) ≡ length out → length (concludesBoth v l out o .output) ≡ length out
+  concluded : (v : Verdict) (o : Outcome Decided) → length (o .output) ≡ length out → length (concludes v (decideLeaves l out) o .output) ≡ length out
   concluded accepted o e = e
   concluded (stopped why) o e = refl
 

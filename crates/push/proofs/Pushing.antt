@@ -16,7 +16,8 @@ use Rattle.clients.specs.Sound.{sound as tableSound}
 use Rattle.desk.specs.Answers.{refused}
 use Rattle.desk.specs.Checks.{first, scopeFits}
 use Rattle.desk.specs.Requests.{PushRequest}
-use Rattle.desk.specs.Push.{left, asker, push, pushChecks, pushAt}
+use Rattle.desk.specs.Outcome.{left}
+use Rattle.desk.specs.Push.{asker, push, pushChecks, pushAt}
 use Rattle.desk.specs.declared.answer.Refusal.the-variants.{LedgerUnsound, TimeWrong, TableUnsound, ClientUnknown, IllFormed, ScopeRefused, FreshTaken, LedgerFull, NumbersSpent}
 
 module _ (l : List ℕ) (t : ℕ) (table : List ℕ) (p : PushRequest) where

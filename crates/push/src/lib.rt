@@ -6,7 +6,8 @@ ghost use Rattle.ledger.specs.Limits.{referenceLifetime, clockLimit, lastNumber
 ghost use Rattle.ledger.specs.Fields.{rec, slots, withRecord, withNext, withClock};
 ghost use Rattle.ledger.specs.Write.{pushed};
 ghost use Rattle.desk.specs.Answers.{answerOf};
-ghost use Rattle.desk.specs.Push.{left, push};
+ghost use Rattle.desk.specs.Outcome.{left};
+ghost use Rattle.desk.specs.Push.{push};
 use clients::known::Known;
 use clients::table::Table;
 use desk::answer::Answer;

@@ -10,7 +10,7 @@ use Rattle.ledger.specs.Fields.{records, rec, scope, holder, boundKey, withCloc
 use Rattle.ledger.specs.Sound.{sound}
 use Rattle.ledger.specs.Checks.{untimely, isToken, expired}
 use Rattle.desk.specs.Answers.{answerOf, refused}
-use Rattle.desk.specs.Push.{left}
+use Rattle.desk.specs.Outcome.{left}
 use Rattle.desk.specs.declared.answer.Answer.{Answer}
 use Rattle.desk.specs.declared.answer.Refusal.{Refusal}
 use Rattle.desk.specs.Checks.{first, scopeFits}

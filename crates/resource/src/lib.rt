@@ -1,7 +1,7 @@
 // Resource: with token and key the program reads only what the holder allowed.
 // It rests on desk, which has its definition and its answers, on soundness and ledger, and serves demands 1 and 2.
 ghost use mathlib.Core.Path.{_≡_};
-ghost use Rattle.desk.specs.Push.{left};
+ghost use Rattle.desk.specs.Outcome.{left};
 ghost use Rattle.desk.specs.Resource.{look, resource};
 use desk::answer::Answer;
 use desk::answer::Reading;

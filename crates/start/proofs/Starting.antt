@@ -8,14 +8,15 @@ use Rattle.octets.specs.Parts.{blank}
 use Rattle.ledger.specs.Fields.{withNext}
 use Rattle.ledger.specs.Sound.{sized}
 use Rattle.desk.specs.Answers.{done, numberOf}
-use Rattle.desk.specs.Start.{leftAt, start, fresh}
+use Rattle.desk.specs.Outcome.{left}
+use Rattle.desk.specs.Start.{start, fresh}
 use Rattle.desk.specs.declared.answer.Refusal.the-variants.{LedgerUnsound}
 
 -- the length alone is looked at
-pub start-1 : (l : List ℕ) (n : ℕ) → sized l ≡ false → n ≡ numberOf LedgerUnsound → leftAt n l ≡ start l
+pub start-1 : (l : List ℕ) (n : ℕ) → sized l ≡ false → n ≡ numberOf LedgerUnsound → left n l ≡ start l
 unfolding start
 start-1 l n a e = rw (a, e)
 
-pub start-done : (l y z : List ℕ) → sized l ≡ true → y ≡ blank (length l) → z ≡ withNext 1 y → leftAt done z ≡ start l
+pub start-done : (l y z : List ℕ) → sized l ≡ true → y ≡ blank (length l) → z ≡ withNext 1 y → left done z ≡ start l
 unfolding start fresh
 start-done l y z a hy hz = rw (a, hz, hy)

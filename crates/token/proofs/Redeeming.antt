@@ -16,7 +16,7 @@ use Rattle.clients.specs.Sound.{sound as tableSound}
 use Rattle.desk.specs.Answers.{refused}
 use Rattle.desk.specs.Checks.{first}
 use Rattle.desk.specs.Requests.{TokenRequest}
-use Rattle.desk.specs.Push.{left}
+use Rattle.desk.specs.Outcome.{left}
 use Rattle.desk.specs.Token.{codeAt, token, tokenChecks, tokenAt}
 use Rattle.desk.specs.declared.answer.Refusal.the-variants.{LedgerUnsound, TimeWrong, TableUnsound, ClientUnknown, NoKey, IllFormed, NoCode, CodeRedeemed, RecordExpired, VerifierDiffers, FreshTaken}
 

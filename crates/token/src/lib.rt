@@ -6,7 +6,7 @@ ghost use Rattle.ledger.specs.Limits.{tokenLifetime, clockLimit};
 ghost use Rattle.ledger.specs.Fields.{rec, slots, withRecord, withClock};
 ghost use Rattle.ledger.specs.Write.{redeemed};
 ghost use Rattle.desk.specs.Answers.{answerOf};
-ghost use Rattle.desk.specs.Push.{left};
+ghost use Rattle.desk.specs.Outcome.{left};
 ghost use Rattle.desk.specs.Token.{token};
 use clients::known::Known;
 use clients::table::Table;

@@ -2,7 +2,7 @@ use Prim.Native.Nat.{ℕ, _<_}
 use Rattle.clients.specs.Fields.{client}
 use Rattle.decide.proofs.Deciding.{decide-1, decide-2, decide-3, decide-4, decide-5, decide-6, decide-7, decide-done}
 use Rattle.desk.proofs.Told.{told}
-use Rattle.desk.proofs.Written.{found-inside, timely-lt, decide-yes, decide-no, refuses-both}
+use Rattle.desk.proofs.Written.{found-inside, timely-lt, decide-yes, decide-no, refuses}
 use Rattle.decide.proofs.decide.Statement.{statement}
 use Rattle.desk.specs.Decide.{referenceAt}
 use Rattle.desk.specs.Limits.{outputLeast}
@@ -63,20 +63,20 @@ fresh-yes c = told _ _ (sym ((c .before .before .check-fresh) .ensures) ∙ (c .
 returns : tie.Need-returns
 returns c =
     let c7 = c .before .before .before .before .before .before .before in
-    refuses-both ((c .refused) .ensures) (decide-1 (l c7) (c7 .args .time) (request c7) ((c7 .args .out) .now) (sound-told _ _ (sym ((c .before .before .before .check) .ensures) ∙ (c .before .enum-told2) .given .1)))
+    refuses ((c .refused) .ensures) (decide-1 (l c7) (c7 .args .time) (request c7) ((c7 .args .out) .now) (sound-told _ _ (sym ((c .before .before .before .check) .ensures) ∙ (c .before .enum-told2) .given .1)))
 
 returns-2 : tie.Need-returns-2
 returns-2 c =
     let c5 = c .before .before .before .before .before in
     let c11 = c5 .before .before .before .before .before .before in
-    refuses-both ((c .refused2) .ensures) (decide-2 (l c11) (c11 .args .time) (request c11) ((c11 .args .out) .now) (sound-yes c5) (time-told _ _ _ (sym ((c .before .before .before .check2) .ensures) ∙ (c .before .enum-told4) .given .1)))
+    refuses ((c .refused2) .ensures) (decide-2 (l c11) (c11 .args .time) (request c11) ((c11 .args .out) .now) (sound-yes c5) (time-told _ _ _ (sym ((c .before .before .before .check2) .ensures) ∙ (c .before .enum-told4) .given .1)))
 
 returns-3 : tie.Need-returns-3
 returns-3 c =
     let c5 = c .before .before .before .before .before in
     let c9 = c5 .before .before .before .before in
     let c15 = c9 .before .before .before .before .before .before in
-    refuses-both ((c .refused3) .ensures) (decide-3 (l c15) (c15 .args .time) (request c15) ((c15 .args .out) .now) (sound-yes c9) (timely-yes c5) (told _ _ (sym ((c .before .before .before .room) .ensures) ∙ (c .before .enum-told6) .given .1)))
+    refuses ((c .refused3) .ensures) (decide-3 (l c15) (c15 .args .time) (request c15) ((c15 .args .out) .now) (sound-yes c9) (timely-yes c5) (told _ _ (sym ((c .before .before .before .room) .ensures) ∙ (c .before .enum-told6) .given .1)))
 
 returns-4 : tie.Need-returns-4
 returns-4 c =
@@ -84,7 +84,7 @@ returns-4 c =
     let c9 = c5 .before .before .before .before in
     let c13 = c9 .before .before .before .before in
     let c19 = c13 .before .before .before .before .before .before in
-    refuses-both ((c .refused4) .ensures) (decide-4 (l c19) (c19 .args .time) (request c19) ((c19 .args .out) .now) (sound-yes c13) (timely-yes c9) (room-yes c5) (found-told _ _ _ (sym ((c .before .before .before .reference) .ensures) ∙ (c .before .enum-told7) .given .1)))
+    refuses ((c .refused4) .ensures) (decide-4 (l c19) (c19 .args .time) (request c19) ((c19 .args .out) .now) (sound-yes c13) (timely-yes c9) (room-yes c5) (found-told _ _ _ (sym ((c .before .before .before .reference) .ensures) ∙ (c .before .enum-told7) .given .1)))
 
 returns-5 : tie.Need-returns-5
 returns-5 c =
@@ -94,7 +94,7 @@ returns-5 c =
     let c15 = c11 .before .before .before .before in
     let c19 = c15 .before .before .before .before in
     let c25 = c19 .before .before .before .before .before .before in
-    refuses-both ((c .refused5) .ensures) (decide-5 (l c25) (c25 .args .time) (request c25) ((c25 .args .out) .now) (sound-yes c19) (timely-yes c15) (room-yes c11) (found-yes c7) (life-told _ _ _ (rw (record-is c4) at (sym ((c .before .before .before .check-life) .ensures) ∙ (c .before .enum-told9) .given .1))))
+    refuses ((c .refused5) .ensures) (decide-5 (l c25) (c25 .args .time) (request c25) ((c25 .args .out) .now) (sound-yes c19) (timely-yes c15) (room-yes c11) (found-yes c7) (life-told _ _ _ (rw (record-is c4) at (sym ((c .before .before .before .check-life) .ensures) ∙ (c .before .enum-told9) .given .1))))
 
 returns-6 : tie.Need-returns-6
 returns-6 c =
@@ -104,7 +104,7 @@ returns-6 c =
     let c18 = c14 .before .before .before .before in
     let c22 = c18 .before .before .before .before in
     let c28 = c22 .before .before .before .before .before .before in
-    refuses-both ((c .refused6) .ensures) (decide-6 (l c28) (c28 .args .time) (request c28) ((c28 .args .out) .now) (sound-yes c22) (timely-yes c18) (room-yes c14) (found-yes c10) (alive-yes c4) (told _ _ (sym ((c .before .before .before .given) .ensures) ∙ (c .before .enum-told11) .given .1)))
+    refuses ((c .refused6) .ensures) (decide-6 (l c28) (c28 .args .time) (request c28) ((c28 .args .out) .now) (sound-yes c22) (timely-yes c18) (room-yes c14) (found-yes c10) (alive-yes c4) (told _ _ (sym ((c .before .before .before .given) .ensures) ∙ (c .before .enum-told11) .given .1)))
 
 returns-7 : tie.Need-returns-7
 returns-7 c =
@@ -115,7 +115,7 @@ returns-7 c =
     let c22 = c18 .before .before .before .before in
     let c26 = c22 .before .before .before .before in
     let c32 = c26 .before .before .before .before .before .before in
-    refuses-both ((c .refused7) .ensures) (decide-7 (l c32) (c32 .args .time) (request c32) ((c32 .args .out) .now) (sound-yes c26) (timely-yes c22) (room-yes c18) (found-yes c14) (alive-yes c8) (holder-yes c5) (told _ _ (sym ((c .before .before .before .check-fresh) .ensures) ∙ (c .before .enum-told13) .given .1)))
+    refuses ((c .refused7) .ensures) (decide-7 (l c32) (c32 .args .time) (request c32) ((c32 .args .out) .now) (sound-yes c26) (timely-yes c22) (room-yes c18) (found-yes c14) (alive-yes c8) (holder-yes c5) (told _ _ (sym ((c .before .before .before .check-fresh) .ensures) ∙ (c .before .enum-told13) .given .1)))
 
 consent-requires : tie.Need-consent-requires
 consent-requires c κs =

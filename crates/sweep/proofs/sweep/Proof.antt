@@ -1,6 +1,6 @@
 use Prim.Native.Nat.{ℕ}
 use Rattle.sweep.proofs.Sweeping.{sweep-1, sweep-2, sweep-done, sweep-written}
-use Rattle.desk.proofs.Written.{refuses-swept}
+use Rattle.desk.proofs.Written.{refuses}
 use Rattle.sweep.proofs.sweep.Statement.{statement}
 use Rattle.ledger.proofs.Told.{sound-told, time-told}
 use Rattle.ledger.specs.Checks.{untimely}
@@ -23,13 +23,13 @@ timely-yes c = time-told _ _ _ (sym ((c .before .before .check2) .ensures) ∙ c
 returns : tie.Need-returns
 returns c =
     let c6 = c .before .before .before .before .before .before in
-    refuses-swept ((c .refused) .ensures) (sweep-1 (l c6) (c6 .args .time) (sound-told _ _ (sym ((c .before .before .before .check) .ensures) ∙ (c .before .enum-told2) .given .1)))
+    refuses ((c .refused) .ensures) (sweep-1 (l c6) (c6 .args .time) (sound-told _ _ (sym ((c .before .before .before .check) .ensures) ∙ (c .before .enum-told2) .given .1)))
 
 returns-2 : tie.Need-returns-2
 returns-2 c =
     let c5 = c .before .before .before .before .before in
     let c10 = c5 .before .before .before .before .before in
-    refuses-swept ((c .refused2) .ensures) (sweep-2 (l c10) (c10 .args .time) (sound-yes c5) (time-told _ _ _ (sym ((c .before .before .before .check2) .ensures) ∙ (c .before .enum-told4) .given .1)))
+    refuses ((c .refused2) .ensures) (sweep-2 (l c10) (c10 .args .time) (sound-yes c5) (time-told _ _ _ (sym ((c .before .before .before .check2) .ensures) ∙ (c .before .enum-told4) .given .1)))
 
 returns-3 : tie.Need-returns-3
 returns-3 c =
