@@ -36,6 +36,7 @@ use Rattle.upkeep.proofs.Heads.{length-clock, rec-clock, rest-clock, length-nex
 use Rattle.upkeep.proofs.Kept.{head-swept}
 use Rattle.upkeep.proofs.Written.{redirect-front}
 use Rattle.clients.specs.Known.{placeOf}
+use Rattle.clients.specs.Fields.{idSpan}
 use Rattle.clients.proofs.Entries.{field-length}
 use Rattle.desk.specs.Limits.{outputLeast}
 use Rattle.desk.specs.Answers.{done}
@@ -156,7 +157,7 @@ module _ (l : List ℕ) (t : ℕ) (table : List ℕ) (p : PushRequest) where
   push-entered f v =
       let x = first-in isFree l (f .room) in
       let y = known-is table (p .client) (p .key) (f .known) in
-      let i : length (p .client) ≡ 16 = ap length (sym (y .id-is)) ∙ field-length table (placeOf table (p .client)) (y .inside) 0 16 (omega arith) in
+      let i : length (p .client) ≡ 16 = ap length (sym (y .id-is)) ∙ field-length table (placeOf table (p .client)) (y .inside) idSpan (omega arith) in
       let (a, b) = both (redirectFormed (p .redirect)) (challengeFormed (p .challenge)) (f .formed) in
       entered l t p (rec l room-place) i (challenge-length (p .challenge) b) v (redirect-length (p .redirect) a .1) (rec-length l room-place (x .inside))
       (ap zeros (free-found l (f .ledger-sound) room-place (x .inside) (x .passes)) ∙ zeros-free)
