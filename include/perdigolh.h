@@ -1,7 +1,9 @@
 /*
  * Perdigolh, the permissions desk, for a web front: the six calls of document 01, from C or any language that can call C.
  *
- * Link target/staticlib/libfront.a, which `rt staticlib front` writes once every contract is proved (x86-64 Linux).
+ * Link target/staticlib/libfront.a, which `rt staticlib front` writes once every contract is proved (x86-64 Linux), or what
+ * `make install` put in its place. docs/FRONT.md has a whole front's duties, docs/WIRE.md what to answer outside for each number,
+ * examples/front.c a grant from beginning to end, perdigolh_text.h the values as text.
  * The functions are crates/front's; tests/lint/header.py holds this file to that source.
  *
  * What holds for every function:
@@ -29,7 +31,27 @@
 extern "C" {
 #endif
 
+/* The release, as in the file VERSION: a million a major, a thousand a minor, one a patch. */
+#define PERDIGOLH_VERSION "0.1.0"
+#define PERDIGOLH_VERSION_NUMBER 1000
+
+/* The interface: the types of the functions and the fields of the structs below. It rises when one of them changes; a function more
+ * leaves it. */
+#define PERDIGOLH_INTERFACE 1
+
+/* PERDIGOLH_VERSION_NUMBER and PERDIGOLH_INTERFACE as the archive was built with them. */
+uint32_t perdigolh_version(void);
+uint32_t perdigolh_interface_1(void);
+
+#if defined(__GNUC__)
+/* Whatever is compiled with this header asks for the interface by its name, so that it is not linked or loaded with another. */
+__attribute__((used)) static uint32_t (*const perdigolh_interface_asked)(void) = perdigolh_interface_1;
+#endif
+
 /* Sizes, in bytes and in records. */
+#define PERDIGOLH_CLIENT_ID_SIZE 16
+#define PERDIGOLH_KEY_SIZE 32   /* a thumbprint: SHA-256 */
+#define PERDIGOLH_VALUE_SIZE 32 /* a reference, a code, a token */
 #define PERDIGOLH_LEDGER_HEAD 32
 #define PERDIGOLH_LEDGER_RECORD 256
 #define PERDIGOLH_LEDGER_LEAST 1
@@ -38,9 +60,20 @@ extern "C" {
 #define PERDIGOLH_TABLE_MOST 64
 #define PERDIGOLH_OUTPUT_LEAST 64
 
+/* Lengths of texts, in characters. A redirect begins with https:// and has bytes 0x21 to 0x7E; a challenge has characters from A-Z,
+ * a-z, 0-9, - and _; a verifier has those, . and ~. */
+#define PERDIGOLH_REDIRECT_LEAST 9
+#define PERDIGOLH_REDIRECT_MOST 64
+#define PERDIGOLH_CHALLENGE_LENGTH 43
+#define PERDIGOLH_VERIFIER_LEAST 43
+#define PERDIGOLH_VERIFIER_MOST 128
+
 /* The bytes of a ledger with this many records, and of a table with this many clients. */
 #define PERDIGOLH_LEDGER_BYTES(records) (PERDIGOLH_LEDGER_HEAD + (size_t)(records) * PERDIGOLH_LEDGER_RECORD)
 #define PERDIGOLH_TABLE_BYTES(clients) ((size_t)(clients) * PERDIGOLH_CLIENT_SIZE)
+
+/* Time, in whole seconds, stays below this. */
+#define PERDIGOLH_TIME_LIMIT 1099511627776 /* 2^40 */
 
 /* Seconds that a reference, a code and a token live: each is expired once `time` is at or past its expiry. */
 #define PERDIGOLH_REFERENCE_LIFETIME 599
@@ -98,6 +131,42 @@ typedef struct perdigolh_swept {
     size_t consented;
     size_t redeemed;
 } perdigolh_swept;
+
+/* The layout that the archive was built with; a compiler that lays a struct out otherwise stops here. */
+#if defined(__cplusplus)
+static_assert(sizeof(perdigolh_answer) == 40 && sizeof(perdigolh_decided) == 48 && sizeof(perdigolh_swept) == 32, "interface 1");
+#elif defined(__STDC_VERSION__) && __STDC_VERSION__ >= 201112L
+_Static_assert(sizeof(perdigolh_answer) == 40 && sizeof(perdigolh_decided) == 48 && sizeof(perdigolh_swept) == 32, "interface 1");
+#endif
+
+/*
+ * The client table: 1 to PERDIGOLH_TABLE_MOST records of PERDIGOLH_CLIENT_SIZE bytes, one behind the other, in any order.
+ *
+ *   0..16  client id, not all zeros, no two alike
+ *   16..48 thumbprint of the key by which the program authenticates, not all zeros; two clients may share one
+ *   48..52 permitted scope bits, big-endian; 0 means that every scope is refused
+ *   52..64 zeros
+ *
+ * A table that is not so answers 3. It is the front's own, is lent at push and token, and may be another at each call.
+ */
+
+/* Writes a client's record. */
+static inline void perdigolh_client_record(uint8_t record[PERDIGOLH_CLIENT_SIZE], const uint8_t client[PERDIGOLH_CLIENT_ID_SIZE],
+                                           const uint8_t key[PERDIGOLH_KEY_SIZE], uint32_t permitted) {
+    size_t i;
+    for (i = 0; i < PERDIGOLH_CLIENT_SIZE; i++) {
+        record[i] = 0;
+    }
+    for (i = 0; i < PERDIGOLH_CLIENT_ID_SIZE; i++) {
+        record[i] = client[i];
+    }
+    for (i = 0; i < PERDIGOLH_KEY_SIZE; i++) {
+        record[16 + i] = key[i];
+    }
+    for (i = 0; i < 4; i++) {
+        record[48 + i] = (uint8_t)(permitted >> (24 - 8 * i));
+    }
+}
 
 /*
  * Start: makes a ledger of zeros with next grant number 1. Answers its number alone.

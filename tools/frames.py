@@ -42,6 +42,9 @@ WORDS = {
     0xff: "no frame",
 }
 
+MOST_DIGITS = 640
+NO_FRAME = 0xff
+
 # The fields behind the number in an answer, by kind.
 GRANT = [("grant", 8), ("holder", 8), ("scope", 4), ("expiry", 8)]
 ANSWERS = {
@@ -71,16 +74,30 @@ def frame(kind, **fields):
     return b"".join(parts).hex()
 
 
+def unframe(line):
+    """A line as its kind and its fields in order, numbers as int and all else as bytes; None where it is no frame."""
+    if len(line) > MOST_DIGITS or not re.fullmatch(r"(?:[0-9A-Fa-f]{2})+", line, re.A):
+        return None
+    data = bytes.fromhex(line)
+    kind, rest = NAMES.get(data[0]), data[1:]
+    fields = {}
+    for name, width in KINDS[kind][1] if kind else []:
+        value, rest = (rest, b"") if width is None else (rest[:width], rest[width:])
+        if width not in (None, len(value)):
+            return None
+        fields[name] = int.from_bytes(value, "big") if name in NUMBERS else value
+    return (kind, fields) if kind and not rest and fields.get("yes", 0) <= 1 else None
+
+
 def read(line, kind=None):
     """An answer line as a dict, or None if it is no answer of this kind; without a kind its length tells."""
-    try:
-        data = bytes.fromhex(line)
-    except ValueError:
+    if not re.fullmatch(r"(?:[0-9a-f]{2})+", line, re.A):
         return None
+    data = bytes.fromhex(line)
+    if data == bytes([NO_FRAME]):
+        return {"number": NO_FRAME}
     if kind is None:
         kind = {1: "start", 7: "sweep", 29: "push"}.get(len(data), "decide")
-    if not data or data == b"\xff":
-        return {"number": 0xff} if data else None
     answer, rest = {"number": data[0]}, data[1:]
     for name, width in ANSWERS[kind]:
         if len(rest) < width:
@@ -88,7 +105,9 @@ def read(line, kind=None):
         answer[name], rest = int.from_bytes(rest[:width], "big"), rest[width:]
     if kind == "decide":
         answer["redirect"] = rest
-    return answer if len(rest) == answer.get("length", 0) else None
+    good = len(rest) == answer.get("length", 0) and data[0] in WORDS and data[0] != NO_FRAME
+    # a refusal has zeros beside its number
+    return answer if good and (data[0] == 0 or not any(data[1:])) else None
 
 
 def s256(verifier):
@@ -125,12 +144,31 @@ def make(kind, arguments):
     return frame(kind, **fields)
 
 
+def told(name, value):
+    """A field as `value` reads it back."""
+    if isinstance(value, int):
+        return {0: "no", 1: "yes"}[value] if name == "yes" else str(value)
+    if name not in TEXTS:
+        return value.hex()
+    plain = re.fullmatch(rb"(?!text:|0x|s256:)[\x21-\x7e]*", value)
+    return value.decode() if plain else "0x" + value.hex()
+
+
+def show(line):
+    """A frame in the words that make it, or None."""
+    found = unframe(line)
+    if found is None:
+        return None
+    kind, fields = found
+    return " ".join([kind] + [f"{name}={told(name, value)}" for name, value in fields.items() if name != "zero" or any(value)])
+
+
 def say(line, kind=None):
-    """An answer line in words."""
+    """An answer line in words, or None."""
     answer = read(line, kind)
     if answer is None:
-        return "no answer line"
-    words = f"{answer['number']}: {WORDS.get(answer['number'], 'no such number')}"
+        return None
+    words = f"{answer['number']}: {WORDS[answer['number']]}"
     rest = [f"{name} {value.decode('latin-1') if name == 'redirect' else value}"
             for name, value in answer.items() if name != "number"]
     return words if answer["number"] else "; ".join([words] + rest)

@@ -37,7 +37,7 @@ pub fn prepared(kind: Kind, used: usize) -> Request {
             _ => state::REDEEMED,
         };
         last = record(state, place as u64 + 1, &own[..16], &mut chance);
-        second::ledger::records_mut(&mut ledger)[place] = last;
+        *second::ledger::record_mut(&mut ledger, place) = last;
     }
     let value = if kind == Kind::Resource { TOKEN } else { VALUE };
     Request {

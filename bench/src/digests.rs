@@ -1,6 +1,6 @@
 //! SHA-256 three ways: the proved one, the second program's in plain Rust, and OpenSSL's where this machine has it.
 
-use std::ffi::{c_char, c_int, c_void, CStr};
+use std::os::raw::{c_char, c_int, c_void};
 
 #[repr(C)]
 pub struct Digest {
@@ -14,7 +14,7 @@ extern "C" {
 }
 
 const NOW: c_int = 2;
-const LIBRARIES: [&CStr; 2] = [c"libcrypto.so.3", c"libcrypto.so"];
+const LIBRARIES: [&[u8]; 2] = [b"libcrypto.so.3\0", b"libcrypto.so\0"];
 type Sha256 = unsafe extern "C" fn(*const u8, usize, *mut u8) -> *mut u8;
 
 pub fn proved(message: &[u8]) -> [u8; 32] {
@@ -33,8 +33,9 @@ pub fn second_digest(message: &[u8]) -> [u8; 32] {
 pub fn openssl() -> Option<impl Fn(&[u8]) -> [u8; 32]> {
     // SAFETY: SHA256 of libcrypto has had this signature since it was first there.
     let function: Sha256 = unsafe {
-        let library = LIBRARIES.iter().map(|name| dlopen(name.as_ptr(), NOW)).find(|library| !library.is_null())?;
-        let function = dlsym(library, c"SHA256".as_ptr());
+        let library =
+            LIBRARIES.iter().map(|name| dlopen(name.as_ptr().cast(), NOW)).find(|library| !library.is_null())?;
+        let function = dlsym(library, b"SHA256\0".as_ptr().cast());
         if function.is_null() {
             return None;
         }

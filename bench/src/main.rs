@@ -4,7 +4,6 @@ mod calls;
 mod digests;
 
 use std::ffi::c_void;
-use std::hint::black_box;
 use std::time::{Duration, Instant};
 
 use calls::{archive, prepared, twin};
@@ -116,4 +115,14 @@ fn stack() {
 
 fn name(kind: Kind) -> String {
     format!("{kind:?}").to_lowercase()
+}
+
+/// The value, of which the compiler knows nothing afterwards.
+fn black_box<T>(value: T) -> T {
+    // SAFETY: the copy takes the value's place.
+    unsafe {
+        let copy = std::ptr::read_volatile(&value);
+        std::mem::forget(value);
+        copy
+    }
 }

@@ -127,7 +127,7 @@ pub fn push(
         let grant = ledger::next_grant(ledger);
         ledger[head::NEXT_GRANT].copy_from_slice(&(grant + 1).to_be_bytes());
         set_clock(ledger, now);
-        let record = &mut ledger::records_mut(ledger)[place];
+        let record = ledger::record_mut(ledger, place);
         record[STATE] = state::PUSHED;
         record[REDIRECT_LENGTH] = redirect.len() as u8;
         record[SCOPE].copy_from_slice(&scope.to_be_bytes());
@@ -169,7 +169,7 @@ pub fn decide(
         }
 
         set_clock(ledger, now);
-        let record = &mut ledger::records_mut(ledger)[place];
+        let record = ledger::record_mut(ledger, place);
         let redirect_length = record[REDIRECT_LENGTH];
         output[..OUTPUT_BYTES].copy_from_slice(&record[REDIRECT]);
         if !yes {
@@ -210,14 +210,14 @@ pub fn token(
                 && record[CLIENT] == *client
         });
         let place = place.ok_or(Refusal::CodeUnknown)?;
-        let record = &ledger::records(ledger)[place];
+        let record = ledger::record(ledger, place);
         ensure(record[STATE] != state::REDEEMED, Refusal::CodeRedeemed)?;
         check_alive(ledger, place, now)?;
         ensure(record[CHALLENGE] == s256(verifier), Refusal::VerifierWrong)?;
         check_fresh(ledger, fresh)?;
 
         set_clock(ledger, now);
-        let record = &mut ledger::records_mut(ledger)[place];
+        let record = ledger::record_mut(ledger, place);
         record[STATE] = state::REDEEMED;
         record[TOKEN].copy_from_slice(fresh);
         record[BOUND_KEY].copy_from_slice(presented_key);
@@ -241,7 +241,7 @@ pub fn resource(
             find(ledger, |record| record[STATE] == state::REDEEMED && record[TOKEN] == *token);
         let place = place.ok_or(Refusal::TokenUnknown)?;
         check_alive(ledger, place, now)?;
-        let record = &ledger::records(ledger)[place];
+        let record = ledger::record(ledger, place);
         let granted = Answer::of(record);
         ensure(record[BOUND_KEY] == *presented_key, Refusal::KeyNotBound)?;
         ensure(within(scope, granted.scope), Refusal::ScopeOutside)?;
@@ -260,7 +260,7 @@ pub fn sweep(ledger: &mut [u8], now: u64) -> Swept {
     set_clock(ledger, now);
     let mut swept = Swept::default();
     let used = |record: &&mut Record| record[STATE] != state::FREE;
-    for record in ledger::records_mut(ledger).iter_mut().filter(used) {
+    for record in ledger::records_mut(ledger).filter(used) {
         if ledger::expired(record, now) {
             match record[STATE] {
                 state::PUSHED => swept.pushed += 1,
@@ -294,12 +294,12 @@ fn check_client<'a>(
 }
 
 fn check_fresh(ledger: &[u8], fresh: &[u8; 32]) -> Result<(), Refusal> {
-    let used = ledger::zero(fresh) || ledger::in_pool(ledger::records(ledger), fresh);
+    let used = ledger::zero(fresh) || ledger::in_pool(ledger, fresh);
     ensure(!used, Refusal::FreshNotFresh)
 }
 
 fn check_alive(ledger: &[u8], place: usize, now: u64) -> Result<(), Refusal> {
-    ensure(!ledger::expired(&ledger::records(ledger)[place], now), Refusal::Expired)
+    ensure(!ledger::expired(ledger::record(ledger, place), now), Refusal::Expired)
 }
 
 fn within(scope: u32, bits: u32) -> bool {
@@ -307,7 +307,7 @@ fn within(scope: u32, bits: u32) -> bool {
 }
 
 fn find(ledger: &[u8], wanted: impl Fn(&Record) -> bool) -> Option<usize> {
-    ledger::records(ledger).iter().position(wanted)
+    ledger::records(ledger).position(wanted)
 }
 
 fn set_clock(ledger: &mut [u8], now: u64) {

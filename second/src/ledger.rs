@@ -45,8 +45,7 @@ pub mod state {
 
 pub fn length_ok(ledger: &[u8]) -> bool {
     let (_, rest) = ledger.split_at(HEAD_BYTES.min(ledger.len()));
-    rest.len().is_multiple_of(RECORD_BYTES)
-        && (1..=MAX_RECORDS).contains(&(rest.len() / RECORD_BYTES))
+    rest.len() % RECORD_BYTES == 0 && (1..=MAX_RECORDS).contains(&(rest.len() / RECORD_BYTES))
 }
 
 pub fn sound(ledger: &[u8]) -> bool {
@@ -54,8 +53,8 @@ pub fn sound(ledger: &[u8]) -> bool {
         && clock(ledger) < CLOCK_END
         && next_grant(ledger) >= FIRST_GRANT
         && zero(&ledger[head::ZERO])
-        && records(ledger).iter().all(|record| record_sound(record, next_grant(ledger)))
-        && !any_clash(records(ledger))
+        && records(ledger).all(|record| record_sound(record, next_grant(ledger)))
+        && !any_clash(ledger)
 }
 
 pub fn clock(ledger: &[u8]) -> u64 {
@@ -66,17 +65,26 @@ pub fn next_grant(ledger: &[u8]) -> u64 {
     number(&ledger[head::NEXT_GRANT])
 }
 
-pub fn records(ledger: &[u8]) -> &[Record] {
-    ledger[HEAD_BYTES..].as_chunks().0
+/// The records in ledger order.
+pub fn records(ledger: &[u8]) -> impl Iterator<Item = &Record> + Clone {
+    ledger[HEAD_BYTES..].chunks_exact(RECORD_BYTES).map(|bytes| bytes.try_into().unwrap())
 }
 
-pub fn records_mut(ledger: &mut [u8]) -> &mut [Record] {
-    ledger[HEAD_BYTES..].as_chunks_mut().0
+pub fn records_mut(ledger: &mut [u8]) -> impl Iterator<Item = &mut Record> {
+    ledger[HEAD_BYTES..].chunks_exact_mut(RECORD_BYTES).map(|bytes| bytes.try_into().unwrap())
+}
+
+pub fn record(ledger: &[u8], place: usize) -> &Record {
+    ledger[HEAD_BYTES + place * RECORD_BYTES..][..RECORD_BYTES].try_into().unwrap()
+}
+
+pub fn record_mut(ledger: &mut [u8], place: usize) -> &mut Record {
+    (&mut ledger[HEAD_BYTES + place * RECORD_BYTES..][..RECORD_BYTES]).try_into().unwrap()
 }
 
 /// Whether the value stands in the pool of values and tokens.
-pub fn in_pool(records: &[Record], value: &[u8; 32]) -> bool {
-    records.iter().any(|record| holds(record, value))
+pub fn in_pool(ledger: &[u8], value: &[u8; 32]) -> bool {
+    records(ledger).any(|record| holds(record, value))
 }
 
 pub fn expired(record: &Record, now: u64) -> bool {
@@ -122,10 +130,14 @@ fn used_sound(record: &Record, next_grant: u64, has_holder: bool, has_token: boo
 }
 
 /// Whether two used records share a grant number, or a value or token of the pool.
-fn any_clash(records: &[Record]) -> bool {
-    records.iter().enumerate().any(|(i, record)| {
-        record[STATE] != state::FREE && records[i + 1..].iter().any(|other| clash(record, other))
-    })
+fn any_clash(ledger: &[u8]) -> bool {
+    let mut later = records(ledger);
+    while let Some(record) = later.next() {
+        if record[STATE] != state::FREE && later.clone().any(|other| clash(record, other)) {
+            return true;
+        }
+    }
+    false
 }
 
 fn clash(record: &Record, other: &Record) -> bool {

@@ -137,9 +137,9 @@ struct Fields<'a>(&'a [u8]);
 
 impl<'a> Fields<'a> {
     fn take<const N: usize>(&mut self) -> Option<&'a [u8; N]> {
-        let (field, rest) = self.0.split_first_chunk()?;
-        self.0 = rest;
-        Some(field)
+        let field = self.0.get(..N)?;
+        self.0 = &self.0[N..];
+        field.try_into().ok()
     }
 
     fn u64(&mut self) -> Option<u64> {
@@ -206,11 +206,10 @@ fn answer_bytes(answer: &Answer) -> Vec<u8> {
 }
 
 fn bytes_of(line: &[u8]) -> Option<Vec<u8>> {
-    let (pairs, rest) = line.as_chunks();
-    if line.len() > MAX_DIGITS || !rest.is_empty() {
+    if line.len() > MAX_DIGITS || line.len() % 2 != 0 {
         return None;
     }
-    pairs.iter().map(|&[high, low]| Some(digit(high)? << 4 | digit(low)?)).collect()
+    line.chunks_exact(2).map(|pair| Some(digit(pair[0])? << 4 | digit(pair[1])?)).collect()
 }
 
 fn digit(character: u8) -> Option<u8> {

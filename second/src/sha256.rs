@@ -21,17 +21,17 @@ const ROUND: [u32; 64] = [
 
 pub fn digest(message: &[u8]) -> [u8; 32] {
     let mut state = INITIAL;
-    let (blocks, rest) = message.as_chunks::<BLOCK>();
+    let blocks = message.chunks_exact(BLOCK);
+    let (tail, count) = padded_tail(blocks.remainder(), message.len());
     for block in blocks {
-        compress(&mut state, block);
+        compress(&mut state, block.try_into().unwrap());
     }
-    let (tail, count) = padded_tail(rest, message.len());
     for block in &tail[..count] {
         compress(&mut state, block);
     }
     let mut out = [0; 32];
-    for (bytes, word) in out.as_chunks_mut::<4>().0.iter_mut().zip(state) {
-        *bytes = word.to_be_bytes();
+    for (bytes, word) in out.chunks_exact_mut(4).zip(state) {
+        bytes.copy_from_slice(&word.to_be_bytes());
     }
     out
 }
@@ -72,8 +72,8 @@ fn compress(state: &mut [u32; 8], block: &[u8; BLOCK]) {
 
 fn schedule(block: &[u8; BLOCK]) -> [u32; 64] {
     let mut w = [0u32; 64];
-    for (word, bytes) in w.iter_mut().zip(block.as_chunks::<4>().0) {
-        *word = u32::from_be_bytes(*bytes);
+    for (word, bytes) in w.iter_mut().zip(block.chunks_exact(4)) {
+        *word = u32::from_be_bytes(bytes.try_into().unwrap());
     }
     for t in 16..64 {
         let (x, y) = (w[t - 15], w[t - 2]);

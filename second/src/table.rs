@@ -25,13 +25,13 @@ impl<'a> Client<'a> {
 
 /// A client table found sound.
 #[derive(Clone, Copy)]
-pub struct Table<'a>(&'a [[u8; CLIENT_BYTES]]);
+pub struct Table<'a>(&'a [u8]);
 
 impl<'a> Table<'a> {
     pub fn read(bytes: &'a [u8]) -> Option<Self> {
-        let (records, rest) = bytes.as_chunks();
-        let table = Table(records);
-        let length_ok = rest.is_empty() && (1..=MAX_CLIENTS).contains(&records.len());
+        let table = Table(bytes);
+        let count = bytes.len() / CLIENT_BYTES;
+        let length_ok = bytes.len() % CLIENT_BYTES == 0 && (1..=MAX_CLIENTS).contains(&count);
         (length_ok && table.clients().all(Client::sound) && table.ids_distinct()).then_some(table)
     }
 
@@ -40,7 +40,7 @@ impl<'a> Table<'a> {
     }
 
     fn clients(self) -> impl Iterator<Item = Client<'a>> {
-        self.0.iter().map(Client)
+        self.0.chunks_exact(CLIENT_BYTES).map(|bytes| Client(bytes.try_into().unwrap()))
     }
 
     fn ids_distinct(self) -> bool {

@@ -51,14 +51,14 @@ OWN = {
     ("s256", 256): "the values of a byte",
     ("texts", 64): "the letters of base64url",
     ("texts", 256): "the values of a byte",
-    ("crates/ledger/specs/Fields.antt", 128): "where the token begins",
+    ("crates/ledger/specs/Fields.antt", 128): "where the value ends and the token begins",
+    ("crates/ledger/specs/Fields.antt", 256): "where the redirect ends",
+    ("crates/clients/specs/Fields.antt", 64): "where the last twelve bytes end",
 }
 # Places that wait for a name, each with the name that there is or should be.
 OPEN = {
     ("crates/frames/src/serve.rt", 64): "Redirect::MOST",
     ("crates/s256/src/base64url.rt", 43): "Challenge::LENGTH",
-    ("crates/upkeep/specs/View.antt", 43): "challengeLength",
-    ("crates/upkeep/specs/View.antt", 64): "redirectMost",
     ("crates/vectors/src/texts.rt", 43): "Challenge::LENGTH",
     ("crates/vectors/src/texts.rt", 64): "the digits of a digest",
 }

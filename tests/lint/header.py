@@ -10,9 +10,9 @@ reference a pointer to its first byte. refusals.py compares the numbers returned
 """
 import re
 import sys
-from pathlib import Path
 
-TOP = Path(__file__).resolve().parents[2]
+sys.dont_write_bytecode = True
+from sources import TOP, tally  # noqa: E402
 
 NUMBERS = {"u8": "uint8_t", "u32": "uint32_t", "u64": "uint64_t", "usize": "size_t"}
 STRUCTS = ("Answer", "Decided", "Swept")
@@ -26,10 +26,18 @@ CONSTANTS = [
     ("CLIENT_SIZE", "clients/src/record.rt", "Client::SIZE"),
     ("TABLE_MOST", "clients/src/table.rt", "Table::MOST"),
     ("OUTPUT_LEAST", "forms/src/lib.rt", "Redirect::MOST"),
+    ("REDIRECT_LEAST", "forms/src/lib.rt", "Redirect::LEAST"),
+    ("REDIRECT_MOST", "forms/src/lib.rt", "Redirect::MOST"),
+    ("CHALLENGE_LENGTH", "forms/src/lib.rt", "Challenge::LENGTH"),
+    ("VERIFIER_LEAST", "forms/src/lib.rt", "Verifier::LEAST"),
+    ("VERIFIER_MOST", "forms/src/lib.rt", "Verifier::MOST"),
     ("REFERENCE_LIFETIME", "ledger/src/limit.rt", "Reference::LIFETIME"),
     ("CODE_LIFETIME", "ledger/src/limit.rt", "Code::LIFETIME"),
     ("TOKEN_LIFETIME", "ledger/src/limit.rt", "Token::LIFETIME"),
+    ("TIME_LIMIT", "ledger/src/limit.rt", "Clock::LIMIT"),
     ("YES", "front/src/choice.rt", "Choice::YES"),
+    ("VERSION_NUMBER", "front/src/version.rt", "Version::NUMBER"),
+    ("INTERFACE", "front/src/version.rt", "Interface::NUMBER"),
 ]
 
 
@@ -86,7 +94,7 @@ def header_calls(text):
     calls = {}
     for answer, name, arguments in re.findall(r"^(\w+) (perdigolh_\w+)\(([^;]*)\);", text, re.M):
         flat = []
-        for argument in map(squeeze, arguments.split(",")):
+        for argument in map(squeeze, [] if arguments == "void" else arguments.split(",")):
             array = re.fullmatch(r"((?:const )?uint8_t) (\w+)\[(\d+)\]", argument)
             slice_or_number = re.fullmatch(r"((?:const )?\w+) (\*?)(\w+)", argument)
             if array:
@@ -125,7 +133,7 @@ def raw_calls(text):
 def constant(path, name):
     kind, word = name.split("::")
     body = read(f"crates/{path}").split(f"impl {kind} {{", 1)[1]
-    return int(re.search(rf"pub const {word}: \w+ = (\d+);", body).group(1))
+    return int(re.search(rf"pub const {word}: \w+ = (\w+);", body).group(1), 0)
 
 
 def results():
@@ -136,10 +144,11 @@ def results():
     library = read("bindings/rust/src/lib.rs")
 
     calls = rattle_calls(front)
-    yield "the source exports six calls", sorted(calls), sorted(f"perdigolh_{n}" for n in ("start", "push", "decide", "token", "resource", "sweep"))
+    names = ("start", "push", "decide", "token", "resource", "sweep", "version", f"interface_{constant('front/src/version.rt', 'Interface::NUMBER')}")
+    yield "the source exports the six calls, version and interface", sorted(calls), sorted(f"perdigolh_{n}" for n in names)
     yield "nothing else of crates/front is exported", len(re.findall("no_mangle", front + answers + read("crates/front/src/choice.rt"))), len(calls)
     for side, said in (("header", header_calls(plain)), ("bindings", raw_calls(raw))):
-        yield f"{side}: the calls", list(said), list(calls)
+        yield f"{side}: the calls", sorted(said), sorted(calls)
         for name in calls:
             yield f"{side}: {name}", said.get(name), calls[name]
 
@@ -183,29 +192,26 @@ SPOILS = [
 ]
 
 
+def differing():
+    return [f"{name}: FAILED\n  said   {said}\n  source {wanted}" for name, said, wanted in results() if said != wanted]
+
+
 def self_test():
-    failed = 0
+    failures = differing()
+    if failures:
+        return tally(0, ["the files differ before they are spoilt", *failures])
     for path, old, new in SPOILS:
         text = (TOP / path).read_text(encoding="utf8")
         spoilt.update({path: text.replace(old, new, 1)})
-        if old not in text or all(said == wanted for _, said, wanted in results()):
-            failed += 1
-            print(f"{path}: {old!r} for {new!r} was not noticed")
+        if old not in text or not differing():
+            failures.append(f"{path}: {old!r} for {new!r} was not noticed")
         spoilt.clear()
-    print(f"{len(SPOILS) - failed} passed, {failed} failed")
-    return 1 if failed else 0
+    return tally(len(SPOILS) - len(failures), failures)
 
 
 def main():
-    passed = failed = 0
-    for name, said, wanted in results():
-        if said == wanted:
-            passed += 1
-        else:
-            failed += 1
-            print(f"{name}: FAILED\n  said   {said}\n  source {wanted}")
-    print(f"{passed} passed, {failed} failed")
-    return 1 if failed else 0
+    wrong = differing()
+    return tally(len(list(results())) - len(wrong), wrong)
 
 
 if __name__ == "__main__":

@@ -81,9 +81,10 @@ def origin(path, head):
 
 
 def definition(path, head):
-    """A definition that makes a record of its arguments."""
+    """A definition that makes a record of its arguments, or hands them to another that does: its file, and the match."""
     path, name = origin(path, head)
-    found = re.search(rf"^{re.escape(name)}((?: \w+)+) =\s*record \{{([^}}]*)\}}", read(path), re.M) if path.endswith(".antt") else None
+    body = r"record \{(?P<fields>[^}]*)\}|(?P<other>\w+)(?P<given>(?: (?:\w+|\[\]))+)$"
+    found = re.search(rf"^{re.escape(name)}(?P<arguments>(?: \w+)+) =\s*(?:{body})", read(path), re.M) if path.endswith(".antt") else None
     return path, found
 
 
@@ -92,12 +93,15 @@ def keeps_all(path, head):
     path, found = definition(path, head)
     if not found:
         return False
-    named = re.findall(r"(\w+)\s*=\s*([^;]+?)\s*(?:;|$)", found.group(2))
-    arguments = found.group(1).split()
+    arguments = found["arguments"].split()
+    if found["other"]:
+        return set(arguments) <= set(found["given"].split()) and keeps_all(path, found["other"])
+    named = re.findall(r"(\w+)\s*=\s*([^;]+?)\s*(?:;|$)", found["fields"])
     if sorted(arguments) == sorted(value for _, value in named):
         return True
     copied = [re.fullmatch(rf"(?:(\w+) \()?{arguments[0]} \.{field}\)?", value) for field, value in named]
-    return len(arguments) == 1 and all(copied) and all(keeps_all(path, c.group(1)) for c in copied if c.group(1)) and len(named) == width(path, name_of(found))
+    whole = len(arguments) == 1 and all(copied) and len(named) == width(path, name_of(found))
+    return whole and all(keeps_all(path, c.group(1)) for c in copied if c.group(1))
 
 
 def name_of(found):
@@ -242,8 +246,13 @@ def faults(page):
     heads = {origin(path, head) for crate in crates() for path, public in files(crate) for head in heads_in(path, public)}
     for path, name in sorted(heads):
         text, made = read(path), definition(path, name)[1]
-        less = made.group().replace(made.group(2), made.group(2).rpartition(";")[0] + " ")
-        yield f"{path}: {name} loses a field", path, text.replace(made.group(), less)
+        if made["other"]:
+            last = made["arguments"].split()[-1]
+            less = re.sub(rf"(?<= ){last}(?= |$)", "[]", made["given"])
+            yield f"{path}: {name} loses {last}", path, text.replace(made.group(), made.group().replace(made["given"], less))
+        else:
+            less = made["fields"].rpartition(";")[0] + " "
+            yield f"{path}: {name} loses a field", path, text.replace(made.group(), made.group().replace(made["fields"], less))
     yield "a row of a function that is not there", PAGE, page.replace(END, "| `crates/octets/src/part.rt: another` | value | `x` |\n" + END)
 
 

@@ -1,18 +1,21 @@
 #!/usr/bin/env python3
 """Every top-level name is reached by something: no law, definition, function or import stands there for nothing.
 
-  tests/lint/unused.py              look at this tree
-  tests/lint/unused.py --top DIR    look at another one
-  tests/lint/unused.py --self-test  look at a made-up tree, where the answer is known
+  tests/lint/unused.py                  look at this tree
+  tests/lint/unused.py --top DIR        look at another one
+  tests/lint/unused.py --drop-imports   write the sources without the imports that are not used; rt fmt then sets the lines
+  tests/lint/unused.py --self-test      look at a made-up tree, where the answer is known
 
 Names are the definitions, laws, records, data types and rulesets of specs/ and proofs/, and the functions, structs, enums and constants
 of src/. A name is reached from a root, or from a name that is reached and has it in its text; its own text does not count, nor does an
-import. Roots are `main`, exported functions, the proofs of functions (`NAME-spec` in a Proof.antt), and what a page of docs/ or README
-cites or quotes; and a function that takes nothing and answers a constant, whose contract ties it to its definition. The table of docs/OUTCOMES.md is no root: it is written from the sources. Fields and variants are not looked at.
+import. Roots are `main`, exported functions, the proofs of functions (`NAME-spec` in a Proof.antt), what a page of docs/ or README cites or
+quotes, and a function that takes nothing and answers a constant, whose contract ties it to its definition. The table of docs/OUTCOMES.md is
+no root: it is written from the sources. Fields and variants are not looked at; where a page cites a field, it cites its record.
 A word stands for a name wherever it is no projection, so that a local variable can hide an unused name, and a finding is one.
 An import is unused where no text of its file has the name, a crate of crates.txt where no source of the other has it.
 """
 import argparse
+import contextlib
 import re
 import sys
 import tempfile
@@ -26,7 +29,7 @@ FIELD = re.compile(r"(?<=[{;])\s*[^\s={}();]+\s*=(?=\s)")  # record { field = ..
 SIGNATURE = re.compile(r"(?:(?:abbrev|unfoldable|pub)\s+)*([^\s(){}:]+)(?:\s+\{[^}]*\})*\s*:(?=\s)")
 DECLARED = re.compile(r"(?:pub\s+)?(?:record|data|ruleset)\s+(\S+)")
 USE = re.compile(r"^(?:pub |ghost )*use\s+([^\s{;]+?)(?:\.\{([^}]*)\}|\s+as\s+(\S+?))?;?\s*$", re.M)
-RUST_USE = re.compile(r"^\s*(?:pub )?use\s+((?:\w+::)*)(\w+);", re.M)
+RUST_USE = re.compile(r"^\s*(?:pub )?use\s+((?:\w+::)*)(\w+)(?:\s+as\s+(\w+))?;", re.M)
 RUST_NAME = re.compile(r"\b(?:fn|struct|enum|const)\s+(\w+)")
 # a function that takes nothing and answers a constant is there for its contract: it ties the constant to its definition
 TIE = re.compile(r"^fn \w+\(\) -> \w+\s+ensures\s*\{[^{}]*\}\s*\{\s*\w+::[A-Z_]+\s*\}$")
@@ -52,13 +55,13 @@ def has(plain, name):
 
 
 class File:
-    """A source with its declarations {name: text}, what it imports {local name: (file, name)}, and its aliases {alias: file}."""
+    """A source: its declarations {name: text}, fields {field: record}, imports {local name: (file, name)} and aliases {alias: file}."""
 
     def __init__(self, tree, path):
         self.tree, self.path = tree, path
         self.crate, self.part = path.split("/")[1:3]
         text = (tree.top / path).read_text(encoding="utf8")
-        self.names, self.imports, self.aliases, self.roots = {}, {}, {}, set()
+        self.names, self.fields, self.imports, self.aliases, self.roots = {}, {}, {}, {}, set()
         if path.endswith(".rt"):
             self.read_rattle(without(RATTLE_SKIP, text))
         else:
@@ -78,7 +81,7 @@ class File:
     def read_antt(self, text):
         """Declarations begin where the file's or a module's body stands; the module's head counts with each of them."""
         lines = [(len(line) - len(line.lstrip()), line.strip()) for line in self.take_uses(text).split("\n") if line.strip()]
-        bodies, name, head = [(0, "")], None, None
+        bodies, records, name, head = [(0, "")], set(), None, None
         for depth, line in lines:
             if head is not None and head.endswith("where"):
                 bodies.append((depth, bodies[-1][1] + " " + head))
@@ -95,11 +98,14 @@ class File:
                 name = None
             elif begins:
                 name = begins.group(1)
+                records |= {name} if DECLARED.match(line) else set()
                 self.names[name] = self.names.get(name, "") + bodies[-1][1] + " " + line
                 if self.path.endswith("/Proof.antt") and name.endswith("-spec"):
                     self.roots.add(name)
             elif name:
-                field = SIGNATURE.match(line) if DECLARED.match(self.names[name].strip()) else None
+                field = SIGNATURE.match(line) if name in records else None
+                if field:
+                    self.fields.setdefault(field.group(1), name)
                 self.names[name] += "\n" + (line[field.end():] if field else line)
 
     # Rattle
@@ -107,7 +113,7 @@ class File:
     def read_rattle(self, text):
         text = self.take_ghosts(text)
         for m in RUST_USE.finditer(text):
-            self.imports[m.group(2)] = self.tree.rust_target(self, m.group(1).split("::")[:-1], m.group(2))
+            self.imports[m.group(3) or m.group(2)] = self.tree.rust_target(self, m.group(1).split("::")[:-1], m.group(2))
         text = without(RUST_USE, text)
         impls = [(m.group(1), m.end() - 1, closing(text, m.end() - 1)) for m in IMPL.finditer(text)]
         for m in RUST_NAME.finditer(text):
@@ -156,12 +162,8 @@ class File:
                 found.add((self.path, name))
             if self.imports.get(name):
                 found.add(self.imports[name])
-        for kind, name in re.findall(r"\b(\w+)::(\w+)", text):
-            home, word = self.imports.get(kind) or (self.path, kind)
-            found.add((home, f"{word}::{name}"))
-            found.add((self.tree.rust_file(self.crate, [kind]), name))
-            if home.endswith(".rt") and word is None:
-                found.add((home, name))
+        for path in re.findall(r"\b\w+(?:::\w+)+", text):
+            found |= self.tree.rust_path(self, path.split("::"))
         for name in re.findall(r"\.(\w+)\(", text):
             found |= self.tree.methods(name)
         return found
@@ -204,13 +206,30 @@ class Tree:
                 return path
         return None
 
+    def crate_of(self, file, path):
+        """The crate that a path begins with, and the rest of the path."""
+        if path and path[0] in ("super", "crate"):
+            return file.crate, path[1:]
+        if path and self.rust_file(path[0], []) and not self.rust_file(file.crate, path[:1]):
+            return path[0], path[1:]
+        return file.crate, path
+
+    def rust_path(self, file, path):
+        """What `a::b::c` may mean: a name, or one of a type, in a file that the path's first words tell."""
+        home, word = file.imports.get(path[0]) or (None, None)
+        if home:
+            path = ([word] if word else []) + path[1:]
+            return {(home, path[0]), (home, "::".join(path[:2]))}
+        crate, rest = self.crate_of(file, path)
+        found = {(file.path, "::".join(path[:2]))}
+        for depth in range(len(rest)):
+            home = self.rust_file(crate, rest[:depth])
+            found |= {(home, rest[depth]), (home, "::".join(rest[depth:depth + 2]))} if home else set()
+        return found
+
     def rust_target(self, file, path, name):
         """What `use path::name;` means: a name of a file, or a file whose name it is."""
-        crate = file.crate
-        if path and path[0] in ("super", "crate"):
-            path = path[1:]
-        elif path and self.rust_file(path[0], []):
-            crate, path = path[0], path[1:]
+        crate, path = self.crate_of(file, path)
         module = self.rust_file(crate, path + [name])
         if module and not module.endswith(("/lib.rt", "/main.rt")):
             return module, None
@@ -246,7 +265,9 @@ class Tree:
         while waiting:
             path, name = waiting.pop()
             file = self.files.get(path)
-            if file is None or (path, name) in reached or name not in file.names:
+            if file and name not in file.names:
+                name = file.fields.get(name)
+            if file is None or (path, name) in reached or name is None:
                 continue
             reached.add((path, name))
             waiting += file.reached_by(file.names[name])
@@ -265,14 +286,42 @@ def check(top):
     return len(reached), unused + imports + crates if tree.files else [f"{top} has no sources"]
 
 
+def without_import(text, local):
+    """The text of a source without the import of a name or alias."""
+    def shorter(m):
+        items = [item.strip() for item in m.group(2).split(",") if item.strip()]
+        left = [item for item in items if item.split(" as ")[-1].strip() != local]
+        return f"{m.group(1)}{{{', '.join(left)}}}{m.group(3)}" if left else ""
+
+    text = re.sub(r"^((?:ghost )?use [^\s{]+\.)\{([^}]*)\}(;?\n)", shorter, text, flags=re.M)
+    text = re.sub(rf"^use \S+ as {re.escape(local)}\n", "", text, flags=re.M)
+    return re.sub(rf"^use (?:\w+::)+(?:{re.escape(local)}|\w+ as {re.escape(local)});\n", "", text, flags=re.M)
+
+
+def drop_imports(top):
+    for path, file in Tree(top).files.items():
+        text = old = (top / path).read_text(encoding="utf8")
+        for local in file.unused_imports():
+            text = without_import(text, local)
+        if text != old:
+            (top / path).write_text(text, encoding="utf8")
+            print(path)
+    return 0
+
+
 # A made-up tree, and the findings in it.
 SAMPLE = {
     "crates.txt": "# ground\na:\nb: a c\n",
     "README.md": "`crates/a/specs/Cited.antt: cited`\n",
-    "docs/PROMISES.md": "`crates/a/proofs/Laws.antt: law`, `crates/a/src/lib.rt: T::cited`\n\n```antt crates/a/specs/Cited.antt\nquoted : ℕ\n```\n",
+    "docs/PROMISES.md": """`crates/a/proofs/Laws.antt: law`, `crates/a/src/lib.rt: T::cited`, `crates/a/specs/Cited.antt: sentence`
+
+```antt crates/a/specs/Cited.antt
+quoted : ℕ
+```
+""",
     "docs/OUTCOMES.md": "<!-- functions -->\n| `crates/a/src/lib.rt: listed` |\n<!-- end -->\n",
     "docs/landings/0001.md": "`crates/a/specs/Cited.antt: landed`\n",
-    "crates/a/specs/Cited.antt": "pub cited : ℕ\ncited = 1\n\nquoted : ℕ\nquoted = 2\n\npub landed : ℕ\nlanded = 3\n",
+    "crates/a/specs/Cited.antt": "pub cited : ℕ\ncited = 1\n\nquoted : ℕ\nquoted = 2\n\npub landed : ℕ\nlanded = 3\n\npub record Demand : Type 0 where\n  sentence : ℕ\n",
     "crates/a/specs/Defs.antt": """-- said here
 use mathlib.Core.List.{List, [], _∷_}
 use mathlib.Core.Bool.{Bool, true}
@@ -312,7 +361,14 @@ second : ℕ
 second = first
 """,
     "crates/a/proofs/More.antt": "pub needed : ℕ\nneeded = 1\n\npub spare : ℕ\nspare = 1\n",
-    "crates/a/proofs/f/Proof.antt": "use Rattle.a.proofs.More.{needed}\nreturns : ℕ\nreturns = 1\nstray : ℕ\nstray = 1\npub f-spec : ℕ\nf-spec = returns\n",
+    "crates/a/proofs/f/Proof.antt": """use Rattle.a.proofs.More.{needed}
+returns : ℕ
+returns = 1
+stray : ℕ
+stray = 1
+pub f-spec : ℕ
+f-spec = returns
+""",
     "crates/a/src/lib.rt": """ghost use Rattle.a.specs.Defs.{used};
 pub mod m;
 use super::m::g;
@@ -332,6 +388,7 @@ impl T {
     pub fn uncalled(self) -> usize { T::LOOSE }
 }
 pub fn listed() -> usize { 1 }
+pub fn whole() -> usize { 1 }
 // fn said() {}
 #[no_mangle]
 pub extern "C" fn out(t: T) -> usize
@@ -341,7 +398,8 @@ pub extern "C" fn out(t: T) -> usize
 }
 """,
     "crates/a/src/m.rt": "pub fn g() -> usize { m_only() }\nfn m_only() -> usize { 1 }\npub fn idle() -> usize { 1 }\n",
-    "crates/b/src/main.rt": "use a::m;\nfn main() { let x = m::g(); }\nfn beside() {}\n",
+    "crates/a/src/n.rt": "pub struct Far {}\nimpl Far {\n    pub const AT: usize = 1;\n    pub const OFF: usize = 1;\n}\npub fn far() -> usize { 1 }\n",
+    "crates/b/src/main.rt": "use a::m;\nfn main() { let x = m::g(); let y = a::n::far() + a::n::Far::AT + a::whole(); }\nfn beside() {}\n",
 }
 FOUND = [
     ("crates/a/specs/Cited.antt", "reaches landed"),
@@ -351,6 +409,7 @@ FOUND = [
     ("crates/a/proofs/f/Proof.antt", "reaches stray"),
     *(("crates/a/src/lib.rt", f"reaches {name}") for name in ("Lone", "T::LOOSE", "T::uncalled", "listed")),
     ("crates/a/src/m.rt", "reaches idle"),
+    ("crates/a/src/n.rt", "reaches Far::OFF"),
     ("crates/b/src/main.rt", "reaches beside"),
     ("crates/a/specs/Defs.antt", "imports T"),
     ("crates/a/proofs/Laws.antt", "imports own"),
@@ -367,15 +426,22 @@ def self_test():
             Path(room, name).parent.mkdir(parents=True, exist_ok=True)
             Path(room, name).write_text(text, encoding="utf8")
         findings = check(Path(room))[1]
+        with contextlib.redirect_stdout(None):
+            drop_imports(Path(room))
+        left = [finding for finding in check(Path(room))[1] if " imports " in finding]
     wanted = [f"{path}: nothing {said}" if said.startswith("reaches") else f"{path}: {said} and does not use it" for path, said in FOUND]
     wrong = [f"not noticed: {finding}" for finding in sorted(set(wanted) - set(findings))]
     wrong += [f"is none: {finding}" for finding in sorted(set(findings) - set(wanted))]
+    wrong += [f"was not dropped: {finding}" for finding in left]
     return tally(len(wanted), wrong)
 
 
 if __name__ == "__main__":
     parser = argparse.ArgumentParser(description=__doc__, formatter_class=argparse.RawDescriptionHelpFormatter)
     parser.add_argument("--top", type=Path, default=TOP)
+    parser.add_argument("--drop-imports", action="store_true")
     parser.add_argument("--self-test", action="store_true")
     options = parser.parse_args()
+    if options.drop_imports:
+        sys.exit(drop_imports(options.top))
     sys.exit(self_test() if options.self_test else tally(*check(options.top)))

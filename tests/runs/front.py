@@ -31,7 +31,9 @@ def steps():
     """Each step: what it is, its command, and whether it ends with tallies of its own."""
     for name in ("calls", "lines"):
         yield f"{name}.c compiles", ["cc", *STRICT, f"tests/front/{name}.c", ARCHIVE, "-o", f"target/front/c/{name}"], False
-    yield "the header is C++ too", ["c++", "-std=c++17", "-Wall", "-Wextra", "-Werror", "-fsyntax-only", "-x", "c++", "include/perdigolh.h"], False
+    yield "front.c compiles", ["cc", *STRICT, "examples/front.c", ARCHIVE, "-o", "target/front/c/front"], False
+    for header in ("perdigolh.h", "perdigolh_text.h"):
+        yield f"{header} is C++ too", ["c++", "-std=c++17", "-Wall", "-Wextra", "-Werror", "-fsyntax-only", "-x", "c++", f"include/{header}"], False
     yield "the Rust tests compile", cargo("build", "--release", package="tests/front", folder="front"), False
     yield "grants and refusals in C", ["target/front/c/calls"], True
     yield "grants and refusals in Rust", cargo("test", "--no-fail-fast", package="bindings/rust", folder="bindings"), True

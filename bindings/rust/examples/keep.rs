@@ -4,6 +4,7 @@
 
 use std::fs::{self, File};
 use std::io::{self, Write};
+use std::os::unix::io::AsRawFd;
 use std::path::Path;
 
 use perdigolh::*;
@@ -32,7 +33,7 @@ fn main() -> io::Result<()> {
 /// Makes a call on the ledger in the file. Its answer comes out once the file has what the call left, and not before.
 fn kept<T>(path: &Path, call: impl FnOnce(&mut Ledger) -> Result<T, Refusal>) -> io::Result<Result<T, Refusal>> {
     let lock = File::create(path.with_extension("lock"))?;
-    lock.lock()?; // one writer, until this function returns
+    lock_alone(&lock)?; // one writer, until this function returns
     let mut copy = fs::read(path)?;
     crash_at("copied");
     let answer = call(&mut Ledger::lent(&mut copy));
@@ -42,6 +43,22 @@ fn kept<T>(path: &Path, call: impl FnOnce(&mut Ledger) -> Result<T, Refusal>) ->
     }
     crash_at("renamed");
     Ok(answer)
+}
+
+extern "C" {
+    fn flock(file: i32, operation: i32) -> i32;
+}
+
+fn lock_alone(file: &File) -> io::Result<()> {
+    const LOCK_EX: i32 = 2;
+    // SAFETY: the descriptor is open for as long as the file is borrowed.
+    while unsafe { flock(file.as_raw_fd(), LOCK_EX) } != 0 {
+        let error = io::Error::last_os_error();
+        if error.kind() != io::ErrorKind::Interrupted {
+            return Err(error);
+        }
+    }
+    Ok(())
 }
 
 /// Puts the bytes in the file's place: afterwards the file has all of them, or what it had before.
@@ -56,7 +73,7 @@ fn replace(path: &Path, bytes: &[u8]) -> io::Result<()> {
 }
 
 fn crash_at(point: &str) {
-    if std::env::var("CRASH").is_ok_and(|crash| crash == point) {
+    if std::env::var("CRASH").map_or(false, |crash| crash == point) {
         std::process::abort();
     }
 }

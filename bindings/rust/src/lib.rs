@@ -15,8 +15,30 @@ use std::fmt;
 
 pub mod raw;
 mod refusal;
+mod request;
+mod text;
+mod value;
+mod wire;
 
 pub use refusal::Refusal;
+pub use request::{Choice, Decide, Push, Read, Redeem};
+pub use text::REQUEST_URI;
+pub use value::{ClientId, Code, Key, Reference, Token};
+pub use wire::{Alarm, Call, Retry, Wire};
+
+/// The release, a million a major, a thousand a minor, one a patch, and the interface that the archive must have.
+pub const VERSION_NUMBER: u32 = 1000;
+pub const INTERFACE: u32 = 1;
+
+/// The archive is asked for its interface by name, so that a program is not linked with another.
+#[used]
+static INTERFACE_ASKED: unsafe extern "C" fn() -> u32 = raw::perdigolh_interface_1;
+
+/// The release of the archive that is linked.
+pub fn version() -> u32 {
+    // SAFETY: it takes nothing and reads nothing.
+    unsafe { raw::perdigolh_version() }
+}
 
 /// Bytes before the first record of a ledger.
 pub const LEDGER_HEAD: usize = 32;
@@ -30,6 +52,14 @@ pub const CLIENT_SIZE: usize = 64;
 pub const TABLE_MOST: usize = 64;
 /// The fewest bytes of decide's output.
 pub const OUTPUT_LEAST: usize = 64;
+/// The fewest and the most characters of a redirect and of a verifier, and the characters of a challenge.
+pub const REDIRECT_LEAST: usize = 9;
+pub const REDIRECT_MOST: usize = 64;
+pub const CHALLENGE_LENGTH: usize = 43;
+pub const VERIFIER_LEAST: usize = 43;
+pub const VERIFIER_MOST: usize = 128;
+/// Time, in whole seconds, stays below this.
+pub const TIME_LIMIT: u64 = 1099511627776;
 /// Seconds that a reference, a code and a token live.
 pub const REFERENCE_LIFETIME: u64 = 599;
 pub const CODE_LIFETIME: u64 = 60;
@@ -48,39 +78,8 @@ pub const fn table_bytes(clients: usize) -> usize {
     clients * CLIENT_SIZE
 }
 
-/// A client's id, as the table has it.
-#[derive(Clone, Copy, Debug, PartialEq, Eq, Hash)]
-pub struct ClientId(pub [u8; 16]);
-
-/// The thumbprint of a key that the front has verified.
-#[derive(Clone, Copy, Debug, PartialEq, Eq, Hash)]
-pub struct Key(pub [u8; 32]);
-
-macro_rules! values {
-    ($($(#[$words:meta])* $name:ident;)*) => {$(
-        $(#[$words])*
-        #[derive(Clone, Copy, PartialEq, Eq, Hash)]
-        pub struct $name(pub [u8; 32]);
-
-        impl fmt::Debug for $name {
-            /// Its bytes are a secret, and are not shown.
-            fn fmt(&self, to: &mut fmt::Formatter<'_>) -> fmt::Result {
-                to.write_str(concat!(stringify!($name), "(..)"))
-            }
-        }
-    )*};
-}
-
-values! {
-    /// What a pushed request stands under until the holder decides. It opens nothing.
-    Reference;
-    /// What a consented request stands under until it is redeemed.
-    Code;
-    /// What opens a reading, together with the key that it is bound to.
-    Token;
-}
-
-/// A client's record in the table: id, authentication key, permitted scope bits.
+/// A client's record in the table: id, thumbprint of the authentication key, permitted scope bits, twelve zeros. A table is 1 to 64
+/// of them, one behind the other; it answers 3 where an id or a key is all zeros or two ids are alike.
 pub fn client_record(id: ClientId, key: Key, permitted: u32) -> [u8; CLIENT_SIZE] {
     let mut record = [0; CLIENT_SIZE];
     record[..16].copy_from_slice(&id.0);
@@ -116,62 +115,15 @@ pub struct Swept {
     pub redeemed: usize,
 }
 
-/// A buyer's program leaves its request. The front has checked before that the program holds the private key of `key`.
-#[derive(Clone, Copy, Debug)]
-pub struct Push<'a> {
-    pub client: ClientId,
-    pub key: Key,
-    pub scope: u32,
-    pub challenge: &'a [u8],
-    pub redirect: &'a [u8],
-    /// The reference from then on: 32 bytes of the front's random source, drawn for this call.
-    pub fresh: Reference,
-}
-
-/// The holder's choice.
-#[derive(Clone, Copy, Debug)]
-pub enum Choice {
-    /// Allowed once. The value is the code from then on: 32 bytes of the front's random source, drawn for this call.
-    Yes(Code),
-    No,
-}
-
-/// The holder decides on a request. The front has checked before that `holder` is the person who has logged in, and that it is
-/// she who chose, seeing this request.
-#[derive(Clone, Copy, Debug)]
-pub struct Decide {
-    pub reference: Reference,
-    pub client: ClientId,
-    pub choice: Choice,
-    pub holder: u64,
-}
-
-/// The program redeems its code. The front has checked before that it holds the private keys of `key` and of `presented`.
-#[derive(Clone, Copy, Debug)]
-pub struct Redeem<'a> {
-    pub client: ClientId,
-    pub key: Key,
-    /// The key that the token is bound to.
-    pub presented: Key,
-    pub code: Code,
-    pub verifier: &'a [u8],
-    /// The token from then on: 32 bytes of the front's random source, drawn for this call.
-    pub fresh: Token,
-}
-
-/// The program reads. The front has checked before that it holds the private key of `presented`.
-#[derive(Clone, Copy, Debug)]
-pub struct Read {
-    pub token: Token,
-    pub presented: Key,
-    /// The bits that this reading needs, and the holder whose figures they are.
-    pub scope: u32,
-    pub holder: u64,
-}
-
 /// A ledger's bytes, lent to their one writer.
-#[derive(Debug)]
 pub struct Ledger<'a>(&'a mut [u8]);
+
+impl fmt::Debug for Ledger<'_> {
+    /// Its bytes hold secrets, and are not shown.
+    fn fmt(&self, to: &mut fmt::Formatter<'_>) -> fmt::Result {
+        write!(to, "Ledger({} bytes)", self.0.len())
+    }
+}
 
 impl<'a> Ledger<'a> {
     /// Makes a ledger of zeros with next grant number 1, whatever the bytes held before.

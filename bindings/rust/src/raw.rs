@@ -32,6 +32,10 @@ pub struct Swept {
 }
 
 extern "C" {
+    pub fn perdigolh_version() -> u32;
+
+    pub fn perdigolh_interface_1() -> u32;
+
     pub fn perdigolh_start(ledger: *mut u8, ledger_length: usize) -> u8;
 
     pub fn perdigolh_push(

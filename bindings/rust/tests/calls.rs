@@ -271,6 +271,8 @@ fn refusals_by_number() {
 }
 
 #[test]
-fn values_are_not_shown() {
-    assert_eq!(format!("{REFERENCE:?} {CODE:?} {TOKEN:?}"), "Reference(..) Code(..) Token(..)");
+fn the_archive_is_of_this_release() {
+    assert_eq!(version(), VERSION_NUMBER);
+    // SAFETY: it takes nothing and reads nothing.
+    assert_eq!(unsafe { raw::perdigolh_interface_1() }, INTERFACE);
 }

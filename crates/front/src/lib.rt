@@ -1,5 +1,6 @@
 // Front: the six calls for a web front, exported to C under the names that include/perdigolh.h declares. It rests on the six calls and on desk: each function hands on
 // what it is lent and answers the desk's answer in a struct that C can read. Its contract is the desk's equation, read through that struct.
+// Two functions beside the calls tell a caller which release and which interface it has.
 ghost use mathlib.Core.Path.{_≡_};
 ghost use Rattle.desk.specs.Outcome.{left, leftWith};
 ghost use Rattle.desk.specs.Start.{start};
@@ -10,13 +11,17 @@ ghost use Rattle.desk.specs.Resource.{resource};
 ghost use Rattle.desk.specs.Sweep.{sweep};
 ghost use Rattle.front.specs.Seen.{asAnswer, asDecided, asSwept};
 ghost use Rattle.front.specs.Consent.{consents};
+ghost use Rattle.front.specs.Version.{versionNumber, interfaceNumber};
 use answer::Answer;
 use answer::Decided;
 use answer::Swept;
 use choice::Choice;
+use version::Interface;
+use version::Version;
 
 pub mod answer;
 pub mod choice;
+pub mod version;
 
 #[no_mangle]
 pub extern "C" fn perdigolh_start(ledger: &mut [u8]) -> u8
@@ -124,4 +129,19 @@ pub extern "C" fn perdigolh_sweep(ledger: &mut [u8], time: u64) -> Swept
     ensures { λ r. ⌜ left (asSwept r) (now (ledger .exit)) ≡ sweep (now (ledger .entry)) time ⌝ }
 {
     Swept::of(sweep::sweep(ledger, time))
+}
+
+#[no_mangle]
+pub extern "C" fn perdigolh_version() -> u32
+    ensures { λ r. ⌜ r ≡ versionNumber ⌝ }
+{
+    Version::NUMBER
+}
+
+// Its name has the interface's number: a caller compiled with another header asks for another name, and is not linked.
+#[no_mangle]
+pub extern "C" fn perdigolh_interface_1() -> u32
+    ensures { λ r. ⌜ r ≡ interfaceNumber ⌝ }
+{
+    Interface::NUMBER
 }

@@ -1,6 +1,6 @@
 //! Memory to lend from, fenced: pages that nobody may touch stand before and behind it, and every byte that is not lent holds a mark.
 
-use std::ffi::{c_int, c_void};
+use std::os::raw::{c_int, c_void};
 use std::slice;
 
 const PAGE: usize = 4096;
@@ -33,7 +33,7 @@ pub struct Lent {
 impl Lent {
     /// Room for buffers of up to this many bytes.
     pub fn with_room(most: usize) -> Lent {
-        let size = most.div_ceil(PAGE).max(1) * PAGE;
+        let size = ((most + PAGE - 1) / PAGE).max(1) * PAGE;
         // SAFETY: a new mapping; only its inner pages are used.
         let memory = unsafe {
             let start = mmap(std::ptr::null_mut(), size + 2 * PAGE, NOTHING, PRIVATE_ANONYMOUS, -1, 0) as *mut u8;

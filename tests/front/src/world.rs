@@ -112,8 +112,7 @@ impl World {
             Kind::Token => &[state::CONSENTED],
             _ => &[state::REDEEMED],
         };
-        let records: Vec<&Record> =
-            ledger::records(&self.ledger).iter().filter(|r| wanted.contains(&r[STATE])).collect();
+        let records: Vec<&Record> = ledger::records(&self.ledger).filter(|r| wanted.contains(&r[STATE])).collect();
         let record = if records.is_empty() { None } else { Some(chance.one_of(&records)) };
         if let Some(record) = record {
             own.retain(|client| client[..16] == record[CLIENT]);
@@ -200,28 +199,28 @@ impl World {
             7 => {
                 // one record over another
                 let (from, to) = (chance.below(slots), chance.below(slots));
-                let record = ledger::records(whole)[from];
-                ledger::records_mut(whole)[to] = record;
+                let record = *ledger::record(whole, from);
+                *ledger::record_mut(whole, to) = record;
             }
             8 => {
                 // what one record holds, in a field of another
                 let (from, to) = (chance.below(slots), chance.below(slots));
                 let (out, into) = (chance.one_of(&[VALUE, TOKEN]), chance.one_of(&[VALUE, TOKEN, BOUND_KEY]));
-                let value: [u8; 32] = ledger::records(whole)[from][out].try_into().unwrap();
-                ledger::records_mut(whole)[to][into].copy_from_slice(&value);
+                let value: [u8; 32] = ledger::record(whole, from)[out].try_into().unwrap();
+                ledger::record_mut(whole, to)[into].copy_from_slice(&value);
             }
             9 => {
-                let grant: [u8; 8] = ledger::records(whole)[chance.below(slots)][GRANT].try_into().unwrap();
-                ledger::records_mut(whole)[chance.below(slots)][GRANT].copy_from_slice(&grant);
+                let grant: [u8; 8] = ledger::record(whole, chance.below(slots))[GRANT].try_into().unwrap();
+                ledger::record_mut(whole, chance.below(slots))[GRANT].copy_from_slice(&grant);
             }
-            _ => spoil_record(&mut ledger::records_mut(whole)[chance.below(slots)], request.time, chance),
+            _ => spoil_record(ledger::record_mut(whole, chance.below(slots)), request.time, chance),
         }
     }
 
     fn spoil_request(&self, r: &mut Request, chance: &mut Chance) {
         let pool: Vec<[u8; 32]> = if r.ledger.len() > HEAD_BYTES {
             let fields = |record: &Record| [VALUE, TOKEN, BOUND_KEY].map(|field| record[field].try_into().unwrap());
-            ledger::records(&r.ledger).iter().flat_map(fields).collect()
+            ledger::records(&r.ledger).flat_map(fields).collect()
         } else {
             Vec::new()
         };

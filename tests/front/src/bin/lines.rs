@@ -42,9 +42,9 @@ struct Fields<'a>(&'a [u8]);
 
 impl<'a> Fields<'a> {
     fn array<const N: usize>(&mut self) -> Option<[u8; N]> {
-        let (field, rest) = self.0.split_first_chunk()?;
-        self.0 = rest;
-        Some(*field)
+        let field = self.0.get(..N)?;
+        self.0 = &self.0[N..];
+        field.try_into().ok()
     }
 
     fn number(&mut self) -> Option<u64> {

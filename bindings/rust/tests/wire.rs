@@ -1,0 +1,82 @@
+//! What a refusal is outside, on every number of every call.
+
+use perdigolh::*;
+
+/// The numbers of each call, in document 01's order.
+const CALLS: [(Call, &[u8]); 6] = [
+    (Call::Start, &[1]),
+    (Call::Push, &[1, 2, 3, 4, 5, 6, 7, 8, 9]),
+    (Call::Decide, &[1, 2, 20, 10, 11, 12, 7]),
+    (Call::Token, &[1, 2, 3, 4, 13, 5, 14, 15, 11, 16, 7]),
+    (Call::Resource, &[1, 2, 17, 11, 18, 6, 19]),
+    (Call::Sweep, &[1, 2]),
+];
+
+fn rows() -> impl Iterator<Item = (Call, Refusal, Wire)> {
+    let all = CALLS.iter().flat_map(|&(call, _)| Refusal::ALL.iter().map(move |&refusal| (call, refusal)));
+    all.filter_map(|(call, refusal)| refusal.at(call).map(|wire| (call, refusal, wire)))
+}
+
+#[test]
+fn a_row_for_each_number_of_each_call_and_no_other() {
+    for (call, numbers) in CALLS {
+        for &refusal in Refusal::ALL {
+            assert_eq!(refusal.at(call).is_some(), numbers.contains(&refusal.number()), "{call:?} {refusal}");
+        }
+    }
+}
+
+#[test]
+fn a_status_fits_its_error() {
+    for (call, refusal, wire) in rows() {
+        let outside = !matches!(call, Call::Start | Call::Sweep);
+        assert_eq!(wire.status.is_some(), outside, "{call:?} {refusal}");
+        let wanted = match wire.error {
+            Some("invalid_client" | "invalid_token") => Some(401),
+            Some("insufficient_scope") => Some(403),
+            Some("invalid_request" | "invalid_scope" | "invalid_grant") => Some(400),
+            Some("server_error") => Some(500),
+            Some("temporarily_unavailable") => Some(503),
+            Some(other) => panic!("{other}"),
+            None => continue,
+        };
+        assert_eq!(wire.status, wanted, "{call:?} {refusal}");
+    }
+}
+
+#[test]
+fn errors_are_those_of_the_endpoint() {
+    for (call, refusal, wire) in rows() {
+        let known: &[&str] = match call {
+            Call::Start | Call::Decide | Call::Sweep => &[],
+            // RFC 9126, section 2.3: those of RFC 6749, sections 5.2 and 4.1.2.1
+            Call::Push => {
+                &["invalid_request", "invalid_client", "invalid_scope", "server_error", "temporarily_unavailable"]
+            }
+            // RFC 6749, section 5.2
+            Call::Token => &["invalid_request", "invalid_client", "invalid_grant"],
+            // RFC 6750, section 3.1
+            Call::Resource => &["invalid_token", "insufficient_scope"],
+        };
+        assert!(wire.error.map_or(true, |error| known.contains(&error)), "{call:?} {refusal} {:?}", wire.error);
+    }
+}
+
+#[test]
+fn retries_and_alarms() {
+    for (call, refusal, wire) in rows() {
+        let retry = match refusal.number() {
+            2 => Retry::Time,
+            7 => Retry::Fresh,
+            8 => Retry::Sweep,
+            _ => Retry::Never,
+        };
+        assert_eq!(wire.retry, retry, "{call:?} {refusal}");
+        let alarm = match refusal.number() {
+            1 | 3 | 9 | 12 | 20 => Alarm::Always,
+            2 | 7 | 8 => Alarm::Again,
+            _ => Alarm::Never,
+        };
+        assert_eq!(wire.alarm, alarm, "{call:?} {refusal}");
+    }
+}
