@@ -95,7 +95,7 @@ def demands():
 
 
 def trust(heading):
-    """The first cells of a table of docs/TRUST.md, as far as their colon; or the items of its list."""
+    """The first cells of a table of docs/TRUST.md, as far as their colon; or the items of its list, as far as their stop or colon."""
     part = found(rf"^## {heading}\n(.*?)(?=^## |\Z)", text_of("docs/TRUST.md"), heading).group(1)
     rows = re.findall(r"^\| (.*?) \|", part, re.M)[1:] or [re.split(r"[.:]", item)[0] for item in re.findall(r"^- (.*)$", part, re.M)]
     return [re.sub(r"`", "", row.split(":")[0]) for row in rows if not re.fullmatch(r"[-|]+", row)]

@@ -37,9 +37,9 @@ def height(items, room):
 
 def draw():
     there = demands()
-    proved = [f"Demand 1: every call, on every input, answers from the table and checks for itself ({there['Demand1']})",
-              f"Demand 2: acceptance is exact, and every byte afterwards is as written ({there['Demand2']})",
-              f"Demand 3: in every run of calls, permissions out never exceed consents in ({there['Demand3']})",
+    proved = [f"Demand 1: every call, on every input, answers from the table and checks for itself (crates/{there['Demand1']})",
+              f"Demand 2: acceptance is exact, and every byte afterwards is as written (crates/{there['Demand2']})",
+              f"Demand 3: in every run of calls, permissions out never exceed consents in (crates/{there['Demand3']})",
               "Each function, of each crate: its contract, for every input; it ends; no index, sum or cast goes wrong"]
     layers = [("Assumed of those around the desk", trust("Assumed"), GREY), ("Trusted tools", trust("Trusted tools"), AMBER),
               ("Run and compared, by the gate", trust("Run, not proved"), BLUE), ("Proved, by the gate", proved, GREEN)]
