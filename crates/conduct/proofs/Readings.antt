@@ -27,7 +27,7 @@ use Rattle.clients.specs.Plain.{KnownAt}
 use Rattle.clients.specs.declared.known.Known.the-variants.{At}
 use Rattle.clients.proofs.Laws.{known-at, known-sound}
 use Rattle.desk.specs.Checks.{scopeFits, within}
-use Rattle.desk.proofs.Told.{known-told, known-place}
+use Rattle.desk.proofs.Tests.{known-told, known-place}
 use Rattle.conduct.specs.Conditions.{InTime, ScopeWithin, FreshValue, FirstFree, StandsAt, TokenAt}
 
 -- ---- what several calls ask

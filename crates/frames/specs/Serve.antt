@@ -13,7 +13,7 @@ use Rattle.desk.specs.declared.answer.Answer.{Answer}
 use Rattle.desk.specs.declared.answer.Decided.{Decided}
 use Rattle.desk.specs.declared.answer.Swept.{Swept}
 use Rattle.desk.specs.declared.answer.Refusal.the-variants.{LedgerUnsound, TableUnsound}
-use Rattle.desk.specs.Start.{fresh}
+use Rattle.desk.specs.Start.{emptyLedger}
 use Rattle.desk.specs.Outcome.{Outcome}
 use Rattle.desk.specs.Push.{push}
 use Rattle.desk.specs.Decide.{decide}
@@ -84,7 +84,7 @@ ledgerSize n = headSize + n * recordSize
 
 unfoldable pub started : List ℕ → List ℕ → Written
 started f l =
-    cond (between recordsLeast recordsMost (slotCount f)) (written (fresh (ledgerSize (slotCount f))) (numberBytes done))
+    cond (between recordsLeast recordsMost (slotCount f)) (written (emptyLedger (ledgerSize (slotCount f))) (numberBytes done))
     (written l (numberBytes (numberOf LedgerUnsound)))
 
 -- "06 checks only for room and otherwise appends and prints 00"; "A 65th client prints 03 and is not appended."

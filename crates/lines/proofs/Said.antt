@@ -15,7 +15,7 @@ use Rattle.desk.specs.declared.answer.Swept.{Swept}
 use Rattle.desk.specs.Checks.{Verdict, accepted, stopped, first}
 use Rattle.desk.specs.Requests.{DecideRequest}
 use Rattle.desk.specs.Outcome.{Outcome, concludes}
-use Rattle.desk.specs.Decide.{decide, decideLeaves, decideChecks, decideAt, consentAt, declineAt, referenceAt}
+use Rattle.desk.specs.Decide.{decide, decideLeaves, decideChecks, decideAt, consentAt, declineAt, referencePlace}
 use Rattle.frames.specs.declared.kind.Kind.{Kind}
 use Rattle.frames.specs.declared.kind.Kind.the-variants.{Start, Push, Decide, Token, Resource, Sweep, Client, NoFrame}
 use Rattle.frames.specs.Limits.{answerMost, answerLine, tableMost}
@@ -55,7 +55,7 @@ module _ (l : List ℕ) (t : ℕ) (d : DecideRequest) (out : List ℕ) where
 
   decide-output : length (decide l t d out .output) ≡ length out
   unfolding decide
-  decide-output = concluded (first (decideChecks l t d out (referenceAt l d))) (decideAt l t d out (referenceAt l d)) (at-output (referenceAt l d))
+  decide-output = concluded (first (decideChecks l t d out (referencePlace l d))) (decideAt l t d out (referencePlace l d)) (at-output (referencePlace l d))
 
 -- ---- by the kind of frame
 

@@ -1,4 +1,4 @@
--- What the answers of the checks say of the table's conditions. Assumes nothing.
+-- What the answers of the checks say of the table's conditions.
 use Prim.Native.Nat.{ℕ}
 use mathlib.Core.Path.{_≡_, refl, ap, _∙_}
 use mathlib.Core.Bool.{Bool, true, false, not, _&&_}
@@ -11,19 +11,20 @@ use Rattle.clients.specs.declared.known.Known.{Known}
 use Rattle.clients.specs.declared.known.Known.the-variants.{At, Unknown}
 use Rattle.clients.specs.declared.table.Table.{Table}
 use Rattle.clients.specs.declared.table.Table.the-variants.{Sound, Unsound}
-use Rattle.desk.specs.Told.{toldIf, toldTexts, toldScope}
+use Rattle.desk.specs.Tests.{failsWhen, textsTest, scopeDecision}
+use Rattle.desk.specs.Push.{grantedBits}
 use Rattle.desk.specs.Checks.{scopeFits}
-use Rattle.desk.specs.declared.check.Told.{Told}
-use Rattle.desk.specs.declared.check.Told.the-variants.{Passed, Failed}
+use Rattle.desk.specs.declared.check.Test.{Test}
+use Rattle.desk.specs.declared.check.Test.the-variants.{Passed, Failed}
 use Rattle.desk.specs.declared.check.Bits.{Bits}
 use Rattle.desk.specs.declared.check.Bits.the-variants.{Granted, Outside}
 
-abbrev isFailed : Told → Bool
+abbrev isFailed : Test → Bool
 isFailed Passed = false
 isFailed Failed = true
 
-pub told : (b : Bool) (a : Told) → toldIf b ≡ a → b ≡ isFailed a
-unfolding toldIf
+pub told : (b : Bool) (a : Test) → failsWhen b ≡ a → b ≡ isFailed a
+unfolding failsWhen
 told true a e = ap isFailed e
 told false a e = ap isFailed e
 
@@ -63,8 +64,8 @@ known-place t v key k e = go (isKnown t v key) refl
     go true s = ap placeIn (rw s at e)
     go false s = let n : Unknown ≡ At k = rw s at e in let z : _≡_ {A = ℕ} 0 1 = cc in absurd (omega arith)
 
-pub texts-told : (r c : List ℕ) (a : Told) → toldTexts r c ≡ a → (redirectFormed r && challengeFormed c) ≡ not (isFailed a)
-unfolding toldTexts
+pub texts-told : (r c : List ℕ) (a : Test) → textsTest r c ≡ a → (redirectFormed r && challengeFormed c) ≡ not (isFailed a)
+unfolding textsTest
 texts-told r c a e = go (redirectFormed r && challengeFormed c) refl (told (not (redirectFormed r && challengeFormed c)) a e)
   where
     go : (b : Bool) → (redirectFormed r && challengeFormed c) ≡ b → not (redirectFormed r && challengeFormed c) ≡ isFailed a → (redirectFormed r && challengeFormed c) ≡ not (isFailed a)
@@ -79,18 +80,18 @@ abbrev bitsIn : Bits → ℕ
 bitsIn (Granted n) = n
 bitsIn Outside = 0
 
-pub scope-told : (asked given : ℕ) (a : Bits) → toldScope asked given ≡ a → scopeFits asked given ≡ isGranted a
-unfolding toldScope
+pub scope-told : (asked given : ℕ) (a : Bits) → scopeDecision asked given ≡ a → scopeFits asked given ≡ isGranted a
+unfolding scopeDecision
 scope-told asked given a e = go (scopeFits asked given) refl
   where
     go : (b : Bool) → scopeFits asked given ≡ b → scopeFits asked given ≡ isGranted a
     go true s = s ∙ ap isGranted (rw s at e)
     go false s = s ∙ ap isGranted (rw s at e)
 
-pub scope-bits : (asked given n : ℕ) → toldScope asked given ≡ Granted n → asked ≡ n
-unfolding toldScope
+pub scope-bits : (asked given n : ℕ) → scopeDecision asked given ≡ Granted n → grantedBits asked given ≡ n
+unfolding scopeDecision
 scope-bits asked given n e = go (scopeFits asked given) refl
   where
-    go : (b : Bool) → scopeFits asked given ≡ b → asked ≡ n
+    go : (b : Bool) → scopeFits asked given ≡ b → grantedBits asked given ≡ n
     go true s = ap bitsIn (rw s at e)
     go false s = let z : Outside ≡ Granted n = rw s at e in let y : _≡_ {A = ℕ} 0 1 = cc in absurd (omega arith)

@@ -1,9 +1,9 @@
 use Rattle.desk.proofs.Written.{consent-written}
-use Rattle.decide.proofs.consent.Statement.{statement}
+use Rattle.decide.proofs.consent_at.Statement.{statement}
 use Rattle.ledger.proofs.Records.{slot-within}
 use borrow.Author.Needs.{needs}
 use native.Mathlib.Omega.{arith}
-use Rattle.decide.proofs.consent.Tie as tie
+use Rattle.decide.proofs.consent_at.Tie as tie
 
 mul-a : tie.Need-mul-a
 mul-a c = omega (arith, slot-within _ _ (c .before .before .pre .0))
@@ -23,13 +23,13 @@ add-hand-out c = omega (arith, slot-within _ _ (c .before .before .before .befor
 part-hand-out-end : tie.Need-part-hand-out-end
 part-hand-out-end c = omega (arith, slot-within _ _ (c .before .before .before .before .before .before .before .pre .0))
 
-add-allow : tie.Need-add-allow
-add-allow c =
+add-consent-record : tie.Need-add-consent-record
+add-consent-record c =
     let c11 = c .before .before .before .before .before .before .before .before .before .before .before in
     omega (arith, slot-within _ _ (c11 .pre .0))
 
-part-allow-end : tie.Need-part-allow-end
-part-allow-end c =
+part-consent-record-end : tie.Need-part-consent-record-end
+part-consent-record-end c =
     let c11 = c .before .before .before .before .before .before .before .before .before .before .before in
     omega (arith, slot-within _ _ (c11 .pre .0))
 
@@ -39,10 +39,10 @@ returns c =
     let c11 = c7 .before .before .before .before in
     let c15 = c11 .before .before .before .before in
     let c20 = c15 .before .before .before .before .before in
-    consent-written (c20 .args .ledger .now) (c20 .args .time) (c20 .args .k) (c20 .pre .0) (c20 .args .holder) (c20 .args .fresh .now) (c20 .args .out .now) _ _ _ _ _ _ ((c15 .redirect-length) .ensures) ((c11 .hand-out) .ensures) ((c7 .allow) .ensures .0) ((c7 .allow) .ensures .1) ((c .before .before .before .set-clock) .ensures) ((c .with) .ensures)
+    consent-written (c20 .args .ledger .now) (c20 .args .time) (c20 .args .k) (c20 .pre .0) (c20 .args .holder) (c20 .args .fresh .now) (c20 .args .out .now) _ _ _ _ _ _ ((c15 .redirect-length) .ensures) ((c11 .hand-out) .ensures) ((c7 .consent-record) .ensures .0) ((c7 .consent-record) .ensures .1) ((c .before .before .before .set-clock) .ensures) ((c .with) .ensures)
 
-pub consent-spec : {M : Type 1} → statement M
-consent-spec =
+pub consent-at-spec : {M : Type 1} → statement M
+consent-at-spec =
     tie.close
     (tie.spec
     mul-a
@@ -57,10 +57,10 @@ consent-spec =
     (search needs)
     part-hand-out-end
     (search needs)
-    add-allow
+    add-consent-record
     (search needs)
     (search needs)
-    part-allow-end
+    part-consent-record-end
     (search needs)
     (search needs)
     (search needs)

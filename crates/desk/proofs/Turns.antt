@@ -1,16 +1,16 @@
--- "The first check that fails gives the answer", and a row is "given exactly when its turn comes": one law over any list of checks. Assumes nothing.
-use Prim.Native.Nat.{ℕ, _≤_}
+-- "The first check that fails gives the answer", and a row is "given exactly when its turn comes": one law over any list of checks.
+use Prim.Native.Nat.{ℕ, zero, suc, _≤_}
 use native.Mathlib.Omega.{arith}
 use mathlib.Core.Path.{_≡_, refl, sym, ap, ap₂, _∙_}
 use mathlib.Core.Logic.{_≢_, _⊎_, inl, inr, ⊎-elim, _↔_}
 use mathlib.Core.Bool.{Bool, true, false, cond, true≢false, false≢true}
 use mathlib.Core.List.{List, [], _∷_, _++_}
 use lib.Dec.{lit≤}
-use lib.ListN.{getD}
+use lib.ListN.{getD, drop}
 use Rattle.desk.specs.Answers.{numberOf, done}
 use Rattle.desk.specs.Checks.{Check, _when_, Verdict, accepted, stopped, first}
 use Rattle.desk.specs.declared.answer.Refusal.{Refusal}
 use Rattle.desk.specs.declared.answer.Refusal.the-variants.{LedgerUnsound, TimeWrong, TableUnsound, ClientUnknown, IllFormed, ScopeRefused, FreshTaken, LedgerFull, NumbersSpent, NoReference, RecordExpired, NoHolder, NoKey, NoCode, CodeRedeemed, VerifierDiffers, NoToken, KeyDiffers, HolderDiffers, OutputShort}
 
 -- ---- what a reader has to know of a list of checks
 
@@ -90,6 +90,43 @@ by-turns cs P f g = go (first cs) refl
     go : (v : Verdict) → first cs ≡ v → P v
     go accepted e = g (first-passed cs .0 e)
     go (stopped why) e = f why (first-turn cs why .0 e)
+
+-- ---- the law as a function's proof walks it, one check after the other
+
+-- the check at place n; behind the last, one that passes
+abbrev pub nth : ℕ → List Check → Check
+nth n cs = getD cs n (LedgerUnsound when false)
+
+-- the turn has come to the check at place n: those before it have passed
+abbrev pub Come : ℕ → List Check → Type 0
+Come n cs = first cs ≡ first (drop n cs)
+
+next : (n : ℕ) (cs : List Check) → nth n cs .holds ≡ false → first (drop n cs) ≡ first (drop (suc n) cs)
+unfolding first
+next zero [] e = refl
+next (suc n) [] e = refl
+next zero (c ∷ cs) e = rw e
+next (suc n) (c ∷ cs) e = next n cs e
+
+here : (n : ℕ) (cs : List Check) → nth n cs .holds ≡ true → first (drop n cs) ≡ stopped (nth n cs .why)
+unfolding first
+here zero [] e = absurd (false≢true e)
+here (suc n) [] e = absurd (false≢true e)
+here zero (c ∷ cs) e = rw e
+here (suc n) (c ∷ cs) e = here n cs e
+
+-- it passes, and the turn comes to the next
+pub passes : (n : ℕ) (cs : List Check) → Come n cs → nth n cs .holds ≡ false → Come (suc n) cs
+passes n cs t e = t ∙ next n cs e
+
+-- it fails, and gives the answer
+pub stops : (n : ℕ) (cs : List Check) → Come n cs → nth n cs .holds ≡ true → first cs ≡ stopped (nth n cs .why)
+stops n cs t e = t ∙ here n cs e
+
+-- none is left
+pub all-pass : (n : ℕ) (cs : List Check) → Come n cs → drop n cs ≡ [] → first cs ≡ accepted
+unfolding first
+all-pass n cs t e = t ∙ ap first e
 
 -- ---- the same in the numbers of the table
 

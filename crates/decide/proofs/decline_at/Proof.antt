@@ -1,9 +1,9 @@
 use Rattle.desk.proofs.Written.{decline-written}
-use Rattle.decide.proofs.refuse.Statement.{statement}
+use Rattle.decide.proofs.decline_at.Statement.{statement}
 use Rattle.ledger.proofs.Records.{slot-within}
 use borrow.Author.Needs.{needs}
 use native.Mathlib.Omega.{arith}
-use Rattle.decide.proofs.refuse.Tie as tie
+use Rattle.decide.proofs.decline_at.Tie as tie
 
 mul-a : tie.Need-mul-a
 mul-a c = omega (arith, slot-within _ _ (c .before .before .pre))
@@ -23,13 +23,13 @@ add-hand-out c = omega (arith, slot-within _ _ (c .before .before .before .befor
 part-hand-out-end : tie.Need-part-hand-out-end
 part-hand-out-end c = omega (arith, slot-within _ _ (c .before .before .before .before .before .before .before .pre))
 
-add-decline : tie.Need-add-decline
-add-decline c =
+add-decline-record : tie.Need-add-decline-record
+add-decline-record c =
     let c11 = c .before .before .before .before .before .before .before .before .before .before .before in
     omega (arith, slot-within _ _ (c11 .pre))
 
-part-decline-end : tie.Need-part-decline-end
-part-decline-end c =
+part-decline-record-end : tie.Need-part-decline-record-end
+part-decline-record-end c =
     let c11 = c .before .before .before .before .before .before .before .before .before .before .before in
     omega (arith, slot-within _ _ (c11 .pre))
 
@@ -39,10 +39,10 @@ returns c =
     let c11 = c7 .before .before .before .before in
     let c15 = c11 .before .before .before .before in
     let c20 = c15 .before .before .before .before .before in
-    decline-written (c20 .args .ledger .now) (c20 .args .time) (c20 .args .k) (c20 .pre) (c20 .args .holder) (c20 .args .out .now) _ _ _ _ _ _ ((c15 .redirect-length) .ensures) ((c11 .hand-out) .ensures) ((c7 .decline) .ensures .0) ((c7 .decline) .ensures .1) ((c .before .before .before .set-clock) .ensures) ((c .with) .ensures)
+    decline-written (c20 .args .ledger .now) (c20 .args .time) (c20 .args .k) (c20 .pre) (c20 .args .holder) (c20 .args .out .now) _ _ _ _ _ _ ((c15 .redirect-length) .ensures) ((c11 .hand-out) .ensures) ((c7 .decline-record) .ensures .0) ((c7 .decline-record) .ensures .1) ((c .before .before .before .set-clock) .ensures) ((c .with) .ensures)
 
-pub refuse-spec : {M : Type 1} → statement M
-refuse-spec =
+pub decline-at-spec : {M : Type 1} → statement M
+decline-at-spec =
     tie.close
     (tie.spec
     mul-a
@@ -57,10 +57,10 @@ refuse-spec =
     (search needs)
     part-hand-out-end
     (search needs)
-    add-decline
+    add-decline-record
     (search needs)
     (search needs)
-    part-decline-end
+    part-decline-record-end
     (search needs)
     (search needs)
     (search needs)
