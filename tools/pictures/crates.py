@@ -51,6 +51,21 @@ def placed(rows, edges):
     return x, wide
 
 
+def way(name, dep, rows, x, y):
+    """From a crate to one that it rests on: past the boxes of the layers between, not behind them."""
+    points = [(x[name], y[name] + TALL)]
+    for row in reversed(rows):
+        here = y[row[0]]
+        if y[name] < here < y[dep]:
+            slope = (x[dep] - points[-1][0]) / (y[dep] - points[-1][1])
+            enters, leaves = (points[-1][0] + slope * (high - points[-1][1]) for high in (here, here + TALL))
+            hit = next((x[other] for other in row if any(abs(x[other] - at) < WIDE / 2 + 6 for at in (enters, leaves))), None)
+            if hit is not None:
+                side = hit + (WIDE / 2 + GAP / 2) * (1 if enters + leaves >= 2 * hit else -1)
+                points += [(round(side), here), (round(side), here + TALL)]
+    return [*points, (x[dep], y[dep])]
+
+
 def draw():
     listed = crates()
     rows, edges = layers(listed), direct(listed)
@@ -60,7 +75,8 @@ def draw():
     y = {name: high - 50 - depth * DEEP for depth, row in enumerate(rows) for name in row}
     for name, deps in edges.items():
         for dep in deps:
-            sheet.add("line", x1=x[name], y1=y[name] + TALL, x2=x[dep], y2=y[dep], stroke=LINE, stroke_width=1, marker_end="url(#head)")
+            points = " ".join(f"{a},{b}" for a, b in way(name, dep, rows, x, y))
+            sheet.add("polyline", points=points, fill="none", stroke=LINE, stroke_width=1, marker_end="url(#head)")
     for name in listed:
         sheet.box(x[name] - WIDE // 2, y[name], WIDE, TALL, FILLS[kind(name)])
         sheet.words(x[name], y[name] + 22, name, 13, bold=kind(name) != "functions", anchor="middle")

@@ -13,14 +13,14 @@ def bands():
     reference, code, token = limit("referenceLifetime"), limit("codeLifetime"), limit("tokenLifetime")
     yield ("1  push", [(0, 1, "request, hash of the secret"), (1, 3, "push: client id, key it has verified, scope, challenge, redirect, fresh value"),
                        (3, 1, "done; the fresh value is the reference"), (1, 0, "reference")],
-           "secret, reference", f"state 1: client, scope, challenge, reference; good until now + {reference}")
+           "secret, reference", f"state 1: client, scope, challenge, reference; expires at now + {reference}")
     yield ("2  decide", [(0, 2, "reference, by her browser"), (2, 1, "logs in, sees the request, allows it"),
                          (1, 3, "decide: reference, client id, yes, her number, fresh value"),
                          (3, 1, "done, and the redirect; the fresh value is the code"), (1, 0, "code, by her browser")],
-           "secret, code", f"state 2: her number, the code over the reference; good until now + {code}")
+           "secret, code", f"state 2: her number, the code over the reference; expires at now + {code}")
     yield ("3  token", [(0, 1, "code, secret, key"), (1, 3, "token: client id, keys it has verified, code, secret, fresh value"),
                         (3, 1, "done; the fresh value is the token"), (1, 0, "token")],
-           "token, key", f"state 3: the token, the key it is tied to, the code; good until now + {token}")
+           "token, key", f"state 3: the token, the key it is tied to, the code; expires at now + {token}")
     yield ("4  resource", [(0, 1, "token, key, what it asks"), (1, 3, "resource: token, key it has verified, scope asked, holder asked"),
                            (3, 1, "done: grant number, holder, scope, expiry"), (1, 0, "the figures she allowed")],
            "her figures, as far as she allowed", "state 3, as before; only the clock moved")
