@@ -23,7 +23,7 @@ def asked():
 
 def reports():
     """The verdict line of each crate's check."""
-    found = {path.stem: re.findall(r"^logic=.*$", path.read_text(encoding="utf8"), re.M) for path in sorted((TOP / "target/log").glob("*.out"))}
+    found = {path.stem: re.findall(r"^logic=.*$", path.read_text(encoding="utf8"), re.M) for path in sorted((TOP / "target/log").glob("*.say"))}
     return {crate: lines[-1] for crate, lines in found.items() if lines}
 
 
