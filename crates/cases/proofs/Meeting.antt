@@ -17,7 +17,7 @@ use Rattle.sha256.specs.Pad.{pad, blocks}
 use Rattle.sha256.specs.Round.{T1, round, rounds}
 use Rattle.sha256.specs.Schedule.{next, words, schedule}
 use Rattle.sha256.specs.Word.{Σ0, Σ1, σ0, σ1}
-use Rattle.s256.specs.Base64url.{letter, characters, base64url}
+use Rattle.texts.specs.Base64url.{letter, characters, base64url}
 use Rattle.s256.specs.Rule.{matches}
 use Rattle.clients.specs.Fields.{permitted, client, entries}
 use Rattle.clients.specs.Known.{hasId, hasKey, placeOf, isKnown}

@@ -13,7 +13,7 @@ use Rattle.octets.proofs.Tests.{both, both-true, false-of}
 use Rattle.octets.proofs.Bytes.{nonzero-says}
 use Rattle.octets.proofs.Parts.{same-eq, same-of}
 use Rattle.sha256.specs.Hash.{sha256}
-use Rattle.s256.specs.Base64url.{base64url}
+use Rattle.texts.specs.Base64url.{base64url}
 use Rattle.s256.specs.Rule.{matches}
 use Rattle.ledger.specs.Limits.{clockLimit}
 use Rattle.ledger.specs.Fields.{clock, rec, slots, records, state, stateNumber, inState, expiry, client, value}

@@ -35,6 +35,7 @@ use Rattle.upkeep.proofs.Kept.{head-swept}
 use Rattle.upkeep.proofs.Written.{redirect-front}
 use Rattle.clients.specs.Fields.{idSpan}
 use Rattle.clients.specs.Known.{placeOf}
+use Rattle.clients.specs.Fields.{idSpan}
 use Rattle.clients.proofs.Entries.{field-length}
 use Rattle.desk.specs.Limits.{outputLeast}
 use Rattle.desk.specs.Answers.{done}

@@ -15,7 +15,7 @@ use Rattle.octets.proofs.Parts.{same-eq, same-of}
 use Rattle.forms.specs.Forms.{redirectFormed, challengeFormed, verifierFormed}
 use Rattle.forms.proofs.Laws.{redirect-says, challenge-says, verifier-says}
 use Rattle.sha256.specs.Hash.{sha256}
-use Rattle.s256.specs.Base64url.{base64url}
+use Rattle.texts.specs.Base64url.{base64url}
 use Rattle.s256.specs.Rule.{matches}
 use Rattle.ledger.specs.Limits.{lastNumber}
 use Rattle.ledger.specs.Fields.{nextNumber, rec, slots, records, state, stateNumber, inState, scope, expiry, holder, challenge, boundKey}

@@ -1,4 +1,4 @@
--- A call keeps the length of the ledger, and a frame keeps ledger and table within the largest size. Assumes nothing.
+-- A call keeps the length of the ledger, and a frame keeps ledger and table within the largest size.
 use Prim.Native.Nat.{ℕ, zero, suc, _+_, _*_, _≤_, _<_}
 use native.Mathlib.Omega.{arith}
 use mathlib.Core.Path.{_≡_, refl}
@@ -29,16 +29,16 @@ use Rattle.desk.specs.Decide.{decide, decideLeaves, decideChecks, decideAt, con
 use Rattle.desk.specs.Token.{token, tokenChecks, tokenAt, tokenLeaves, tokenRecord, codePlace}
 use Rattle.desk.specs.Resource.{resource, resourceBy, look}
 use Rattle.desk.specs.Sweep.{sweep, sweepChecks, sweepLeaves}
-use Rattle.frames.specs.declared.kind.Kind.{Kind}
-use Rattle.frames.specs.declared.kind.Kind.the-variants.{Start, Push, Decide, Token, Resource, Sweep, Client, NoFrame}
+use Rattle.wire.specs.declared.kind.Kind.{Kind}
+use Rattle.wire.specs.declared.kind.Kind.the-variants.{Start, Push, Decide, Token, Resource, Sweep, Client, NoFrame}
 use Rattle.frames.specs.Limits.{ledgerMost, tableMost}
-use Rattle.frames.specs.Hex.{between}
-use Rattle.frames.specs.Calls.{slotCount}
+use Rattle.texts.specs.Hex.{between}
+use Rattle.wire.specs.Calls.{slotCount}
 use Rattle.frames.specs.Serve as serving
-use Rattle.frames.specs.Answers.{numberBytes}
+use Rattle.wire.specs.Answers.{numberBytes}
 use Rattle.frames.specs.Serve.{Desk, Served, Written, written, serve, started, appended}
 use Rattle.desk.specs.Start.{emptyLedger}
-use Rattle.frames.proofs.Digits.{within}
+use Rattle.texts.proofs.Digits.{within}
 use Rattle.frames.proofs.Holding.{length-fresh}
 
 -- ---- all checks passed
@@ -162,7 +162,7 @@ started-fits : (f l : List ℕ) → length l ≤ ledgerMost → length (started 
 unfolding started
 started-fits f l h =
     by-test (between 1 200 (slotCount f)) (written (emptyLedger (32 + slotCount f * 256)) (numberBytes 0)) (written l (numberBytes 1)) ledgerMost
-    (λ e. let w = within 1 200 (slotCount f) e in let n = length-fresh (32 + slotCount f * 256) in omega arith) h
+    (λ e. let w = within 1 200 (slotCount f) e in let n = length-emptyLedger (32 + slotCount f * 256) in omega arith) h
 
 appended-fits : (f t : List ℕ) → length t ≤ tableMost → length (appended f t .bytes) ≤ tableMost
 unfolding appended

@@ -1,4 +1,4 @@
--- An answer has no more bytes than the longest, and its line no more characters. Assumes nothing.
+-- An answer has no more bytes than the longest, and its line no more characters.
 use Prim.Native.Nat.{ℕ, _+_, _≤_}
 use native.Mathlib.Omega.{arith}
 use mathlib.Core.Path.{_≡_, refl}
@@ -16,13 +16,15 @@ use Rattle.desk.specs.Checks.{Verdict, accepted, stopped, first}
 use Rattle.desk.specs.Requests.{DecideRequest}
 use Rattle.desk.specs.Outcome.{Outcome, concludes}
 use Rattle.desk.specs.Decide.{decide, decideLeaves, decideChecks, decideAt, consentAt, declineAt, referencePlace}
-use Rattle.frames.specs.declared.kind.Kind.{Kind}
-use Rattle.frames.specs.declared.kind.Kind.the-variants.{Start, Push, Decide, Token, Resource, Sweep, Client, NoFrame}
-use Rattle.frames.specs.Limits.{answerMost, answerLine, tableMost}
-use Rattle.frames.specs.Hex.{between, decoded, lineOf}
-use Rattle.frames.specs.Kinds.{frameKind}
-use Rattle.frames.specs.Calls.{time, slotCount, decideRequest}
-use Rattle.frames.specs.Answers.{sweptBytes, answerBytes, decidedBytes}
+use Rattle.wire.specs.declared.kind.Kind.{Kind}
+use Rattle.wire.specs.declared.kind.Kind.the-variants.{Start, Push, Decide, Token, Resource, Sweep, Client, NoFrame}
+use Rattle.wire.specs.Answers.{answerMost}
+use Rattle.frames.specs.Limits.{answerLine, tableMost}
+use Rattle.texts.specs.Hex.{between, decoded}
+use Rattle.frames.specs.Line.{lineOf}
+use Rattle.frames.specs.Line.{frameKind}
+use Rattle.wire.specs.Calls.{time, slotCount, decideRequest}
+use Rattle.wire.specs.Answers.{sweptBytes, answerBytes, decidedBytes}
 use Rattle.frames.specs.Serve.{Desk, Written, pushed, decided, redeemed, read, swept, started, appended, serve, serveLine}
 use Rattle.frames.proofs.Lines.{length-line}
 
