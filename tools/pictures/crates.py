@@ -61,8 +61,8 @@ def way(name, dep, rows, x, y):
             enters, leaves = (points[-1][0] + slope * (high - points[-1][1]) for high in (here, here + TALL))
             hit = next((x[other] for other in row if any(abs(x[other] - at) < WIDE / 2 + 6 for at in (enters, leaves))), None)
             if hit is not None:
-                side = hit + (WIDE / 2 + GAP / 2) * (1 if enters + leaves >= 2 * hit else -1)
-                points += [(round(side), here), (round(side), here + TALL)]
+                enters = leaves = hit + (WIDE / 2 + GAP / 2) * (1 if enters + leaves >= 2 * hit else -1)
+            points += [(round(enters), here), (round(leaves), here + TALL)]
     return [*points, (x[dep], y[dep])]
 
 
