@@ -47,8 +47,6 @@ OWN = {
     ("sha256", 64): "the bytes of a block, the words of a schedule, the rounds",
     ("sha256", 128): "0x80, the mark behind a message",
     ("sha256", 256): "the values of a byte",
-    ("s256", 64): "the letters of base64url",
-    ("s256", 256): "the values of a byte",
     ("texts", 64): "the letters of base64url",
     ("texts", 256): "the values of a byte",
     ("crates/ledger/specs/Fields.antt", 128): "where the value ends and the token begins",
@@ -57,10 +55,6 @@ OWN = {
 }
 # Places that wait for a name, each with the name that there is or should be.
 OPEN = {
-    ("crates/frames/src/serve.rt", 64): "Redirect::MOST",
-    ("crates/s256/src/base64url.rt", 43): "Challenge::LENGTH",
-    ("crates/vectors/src/texts.rt", 43): "Challenge::LENGTH",
-    ("crates/vectors/src/texts.rt", 64): "the digits of a digest",
 }
 LIMITS = "Limits.antt"
 # The edges P1 to P12, the verdicts and the plays are written with the paper's own numbers, so that a wrong limit shows.

@@ -121,8 +121,16 @@ def width(path, name):
 
 
 def fields(source, name):
+    """The fields of a struct that the source declares, or takes from another module of its crate."""
     found = re.search(rf"\bpub struct {re.escape(name)}\s*\{{([^}}]*)\}}", source) if name else None
     return set(re.findall(r"(\w+)\s*:", found.group(1))) if found else set()
+
+
+def with_used(path, source):
+    """The source with the modules of its crate behind it that it takes names from."""
+    used = sorted(set(re.findall(r"^use super::(\w+)::", source, re.M)))
+    near = [f"{path.rpartition('/')[0]}/{module}.rt" for module in used]
+    return "\n".join([source] + [without(RATTLE_COMMENT, read(file)) for file in near if (TOP / file).is_file()])
 
 
 def conjuncts(statement):
@@ -191,7 +199,7 @@ def rows_of(path, public):
             continue
         try:
             lent = set(re.findall(r"(\w+)\s*:\s*&(?:'\w+ )?mut\b", parameters))
-            kind, right = form(clauses, lent, returned, path, source)
+            kind, right = form(clauses, lent, returned, path, with_used(path, source))
             yield f"| {where} | {kind} | `{right}` |", None
         except ValueError as wrong:
             yield where, str(wrong)
