@@ -313,12 +313,12 @@ module _ (l : List ℕ) (t : ℕ) where
 
 -- ---- start, where the length is right
 
-pub start-writes : (l : List ℕ) → (start l) .number ≡ done → (sized l ≡ true) × ((start l) .ledger ≡ fresh (length l))
+pub start-writes : (l : List ℕ) → (start l) .answer ≡ done → (sized l ≡ true) × ((start l) .ledger ≡ fresh (length l))
 unfolding start
 start-writes l = by (sized l)
   where
-    by : (b : Bool) → (cond b (leftAt done (fresh (length l))) (leftAt (numberOf LedgerUnsound) l)) .number ≡ done
-        → (b ≡ true) × ((cond b (leftAt done (fresh (length l))) (leftAt (numberOf LedgerUnsound) l)) .ledger ≡ fresh (length l))
+    by : (b : Bool) → (cond b (left done (fresh (length l))) (left (numberOf LedgerUnsound) l)) .answer ≡ done
+        → (b ≡ true) × ((cond b (left done (fresh (length l))) (left (numberOf LedgerUnsound) l)) .ledger ≡ fresh (length l))
     by true e = (refl, refl)
     by false e = absurd (number-refused LedgerUnsound e)
 

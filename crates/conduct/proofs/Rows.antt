@@ -159,16 +159,16 @@ abbrev pub startChecks : List ℕ → List Check
 startChecks l = (LedgerUnsound when not (sized l)) ∷ []
 
 module _ (l : List ℕ) where
-  start-number : (start l) .number ≡ numberBy (first (startChecks l))
+  start-number : (start l) .answer ≡ numberBy (first (startChecks l))
   unfolding start first
   start-number = by (sized l)
     where
-      by : (b : Bool) → (cond b (leftAt done (fresh (length l))) (leftAt (numberOf LedgerUnsound) l)) .number
+      by : (b : Bool) → (cond b (left done (fresh (length l))) (left (numberOf LedgerUnsound) l)) .answer
           ≡ numberBy (cond (not b) (stopped LedgerUnsound) accepted)
       by true = refl
       by false = refl
 
-  pub start-turn : (why : Refusal) → ((start l) .number ≡ numberOf why) ↔ Turn why (startChecks l)
+  pub start-turn : (why : Refusal) → ((start l) .answer ≡ numberOf why) ↔ Turn why (startChecks l)
   start-turn = turns-exactly _ (startChecks l) start-number
 
 -- ---- demand 1: each call's number is 0 or one of those that its list names

@@ -2,16 +2,15 @@
 use Prim.Native.Nat.{ℕ, _+_, _-_, _≤_, _<_}
 use native.Mathlib.Omega.{arith}
 use native.Mathlib.Nat.{le-refl}
-use native.Mathlib.Decide.{decLt}
 use mathlib.Core.Path.{_≡_, refl, sym, ap, ap₂, _∙_}
-use mathlib.Core.Logic.{_≢_, _⊎_, inl, inr, ⊎-elim}
+use mathlib.Core.Logic.{_≢_, _⊎_, inl, inr}
 use mathlib.Core.Bool.{Bool, true, false, not, _&&_, cond, true≢false, and-false}
 use mathlib.Core.List.{List, [], _∷_, _++_, append-assoc}
 use lib.ListN.{length, take, drop, length-take, length-drop, take-append-drop}
-use borrow.Author.Tests.{eqb-true, eqb-false, eq-eqb, ne-eqb, ltb-false, le-leb, lt-leb}
+use borrow.Author.Tests.{eq-eqb, ne-eqb, ltb-false, le-leb, lt-leb}
 use Rattle.octets.specs.Lists.{place}
-use Rattle.octets.specs.Numbers.{num, digits}
-use Rattle.octets.specs.Parts.{part, put, blank, zeros}
+use Rattle.octets.specs.Numbers.{digits}
+use Rattle.octets.specs.Parts.{blank, zeros}
 use Rattle.octets.specs.Plain.{Bytes}
 use Rattle.octets.proofs.Tests.{both, both-true}
 use Rattle.octets.proofs.Numbers.{length-digits}
@@ -20,8 +19,7 @@ use Rattle.octets.proofs.Bytes.{zeros-take, zeros-drop, zeros-say}
 use Rattle.forms.specs.Forms.{redirectFormed, challengeFormed}
 use Rattle.forms.proofs.Laws.{challenge-length, redirect-length}
 use Rattle.ledger.specs.Limits.{recordSize}
-use Rattle.ledger.specs.Fields.{nextNumber, headRest, rec, slots, records, state, stateNumber, used, inState, redirectLength, expiry, redirectField, redirect, behindRedirect, withRecord, withNext, withClock}
-use Rattle.ledger.specs.Sound.{sized, sound}
+use Rattle.ledger.specs.Fields.{nextNumber, headRest, rec, slots, records, state, stateNumber, used, redirectLength, expiry, redirectField, redirect, behindRedirect, withRecord, withNext, withClock}
 use Rattle.ledger.specs.Checks.{isFree, isReference, isCode, isToken, expired}
 use Rattle.ledger.specs.Write.{free}
 use Rattle.ledger.specs.Sweep.{swept, freedOf, freed}
@@ -35,6 +33,7 @@ use Rattle.upkeep.proofs.Replaced.{zeros-free}
 use Rattle.upkeep.proofs.Heads.{length-clock, rec-clock, rest-clock, length-next, rec-next, rest-next, head-with, rest-with}
 use Rattle.upkeep.proofs.Kept.{head-swept}
 use Rattle.upkeep.proofs.Written.{redirect-front}
+use Rattle.clients.specs.Fields.{idSpan}
 use Rattle.clients.specs.Known.{placeOf}
 use Rattle.clients.proofs.Entries.{field-length}
 use Rattle.desk.specs.Limits.{outputLeast}
@@ -156,7 +155,7 @@ module _ (l : List ℕ) (t : ℕ) (table : List ℕ) (p : PushRequest) where
   push-entered f v =
       let x = first-in isFree l (f .room) in
       let y = known-is table (p .client) (p .key) (f .known) in
-      let i : length (p .client) ≡ 16 = ap length (sym (y .id-is)) ∙ field-length table (placeOf table (p .client)) (y .inside) 0 16 (omega arith) in
+      let i : length (p .client) ≡ 16 = ap length (sym (y .id-is)) ∙ field-length table (placeOf table (p .client)) (y .inside) idSpan (omega arith) in
       let (a, b) = both (redirectFormed (p .redirect)) (challengeFormed (p .challenge)) (f .formed) in
       entered l t p (rec l room-place) i (challenge-length (p .challenge) b) v (redirect-length (p .redirect) a .1) (rec-length l room-place (x .inside))
       (ap zeros (free-found l (f .ledger-sound) room-place (x .inside) (x .passes)) ∙ zeros-free)

@@ -7,7 +7,7 @@ use mathlib.Core.List.{List, []}
 use lib.Dec.{eqb}
 use lib.ListN.{length}
 use borrow.Author.Tests.{ltb-true, lt-ltb, leb-true, le-leb, eqb-true, eq-eqb, not-true, not-false}
-use Rattle.octets.specs.Lists.{some, place}
+use Rattle.octets.specs.Lists.{some}
 use Rattle.octets.specs.Parts.{same}
 use Rattle.octets.proofs.Tests.{both, both-true, false-of}
 use Rattle.octets.proofs.Bytes.{zeros-say}
@@ -22,7 +22,7 @@ use Rattle.ledger.specs.Fields.{nextNumber, rec, slots, records, state, stateNu
 use Rattle.ledger.specs.Sound.{sized, sound}
 use Rattle.ledger.specs.Checks.{isFree, isReference, isCode, isToken, untimely, expired, taken}
 use Rattle.ledger.specs.declared.state.State.the-variants.{Free, Pushed, Consented, Redeemed}
-use Rattle.upkeep.proofs.Searches.{First, some-in, none-in, none-found, first-in, free-says, reference-first, code-first, token-first}
+use Rattle.upkeep.proofs.Searches.{some-in, none-in, none-found, first-in, free-says, reference-first, code-first, token-first}
 use Rattle.upkeep.proofs.Plain.{size-says, ledger-says}
 use Rattle.clients.specs.Fields.{client as entry, permitted}
 use Rattle.clients.specs.Known.{isKnown, placeOf}
@@ -39,12 +39,12 @@ use Rattle.desk.specs.Token.{codeAt, tokenChecks}
 use Rattle.desk.specs.Resource.{tokenPlace, resourceChecks}
 use Rattle.desk.specs.Sweep.{sweepChecks}
 use Rattle.desk.specs.declared.answer.Refusal.{Refusal}
-use Rattle.conduct.specs.Conditions.{InTime, ScopeWithin, FreshValue, StandsAt, TokenAt}
+use Rattle.conduct.specs.Conditions.{ScopeWithin, FreshValue, StandsAt, TokenAt}
 use Rattle.conduct.proofs.Rows.{startChecks, start-turn, push-turn, decide-turn, token-turn, resource-turn, sweep-turn}
 use Rattle.conduct.proofs.Readings.{time-says, known-is, is-known, scope-says, fresh-says, match-says, place-named, reference-stands, code-stands, redeemed-stands, token-stands}
 use Rattle.demands.specs.Calls.{Call, start, push, decide, token, resource, sweep, leaves}
 use Rattle.demands.specs.Rows.{Not, Turn, startRows, pushRows, decideRows, tokenRows, resourceRows, begins, rows}
-use Rattle.demands.proofs.Turning.{Agree, turn-says, not-says, flip-says, either-fails, at-found}
+use Rattle.demands.proofs.Turning.{Agreed, none, row, turns-say, not-says, flip-says, either-fails, at-found}
 
 -- ---- rows that several calls have
 
@@ -76,73 +76,32 @@ none-says q l S inside says = (
 
 -- ---- the calls
 
-start-agrees : (l : List ℕ) → Agree (startChecks l) (startRows l)
-start-agrees l = (refl, (not-says (sized l) (size-says l), λ e. tt))
+start-turns : (l : List ℕ) (why : Refusal) → (leaves l [] start .number ≡ numberOf why) ↔ Turn why (startRows l)
+start-turns l why = turns-say _ why (startChecks l) (startRows l) (row (not-says (sized l) (size-says l)) (λ e. none)) (start-turn l why)
 
 module _ (l : List ℕ) (t : ℕ) (table : List ℕ) (p : PushRequest) where
-  push-agrees : Agree (pushChecks l t table p) (pushRows l t table p)
+  push-agrees : Agreed (pushChecks l t table p) (pushRows l t table p)
   unfolding pushChecks
-  push-agrees = (
-    refl,
-    (
-      not-says (sound l) (ledger-says l),
-      λ s. (
-        refl,
-        (
-          flip-says (untimely l t) (time-says l t),
-          λ i. (
-            refl,
-            (
-              not-says (tableSound table) (table-says table),
-              λ y.
-                  let ok = not-false (tableSound table) y in (
-                    refl,
-                    (
-                      unknown-says table (p .client) (p .key) ok,
-                      λ n.
-                          let known = not-false (isKnown table (p .client) (p .key)) n in (
-                            refl,
-                            (
-                              either-fails (redirectFormed (p .redirect)) (challengeFormed (p .challenge)) (redirect-says (p .redirect)) (challenge-says (p .challenge)),
-                              λ w. (
-                                refl,
-                                (
-                                  at-found (λ (k : ℕ). not (scopeFits (p .scope) (permitted (entry table k)))) (KnownAt table (p .client) (p .key))
-                                      (λ (k : ℕ). Not (ScopeWithin (p .scope) (permitted (entry table k))))
-                                      (λ k. not-says (scopeFits (p .scope) (permitted (entry table k))) (scope-says (p .scope) (permitted (entry table k))))
-                                      (placeOf table (p .client)) (known-is table (p .client) (p .key) known) (λ k x. is-known table (p .client) (p .key) k ok x .1),
-                                  λ f. (
-                                    refl,
-                                    (
-                                      flip-says (taken l (p .fresh)) (fresh-says l (p .fresh)),
-                                      λ v. (
-                                        refl,
-                                        (
-                                          full-says l,
-                                          λ r.
-                                              (refl, ((eqb-true (nextNumber l) lastNumber, eq-eqb (nextNumber l) lastNumber), λ x. tt)),
-                                        ),
-                                      ),
-                                    ),
-                                  ),
-                                ),
-                              ),
-                            ),
-                          ),
-                    ),
-                  ),
-            ),
-          ),
-        ),
-      ),
-    ),
-  )
+  push-agrees =
+      row (not-says (sound l) (ledger-says l)) (λ s.
+      row (flip-says (untimely l t) (time-says l t)) (λ i.
+      row (not-says (tableSound table) (table-says table)) (λ y.
+      let ok = not-false (tableSound table) y in
+      row (unknown-says table (p .client) (p .key) ok) (λ n.
+      let known = known-is table (p .client) (p .key) (not-false (isKnown table (p .client) (p .key)) n) in
+      row (either-fails (redirectFormed (p .redirect)) (challengeFormed (p .challenge)) (redirect-says (p .redirect)) (challenge-says (p .challenge))) (λ w.
+      row
+      (at-found (λ (k : ℕ). not (scopeFits (p .scope) (permitted (entry table k)))) (KnownAt table (p .client) (p .key))
+      (λ (k : ℕ). Not (ScopeWithin (p .scope) (permitted (entry table k))))
+      (λ k. not-says (scopeFits (p .scope) (permitted (entry table k))) (scope-says (p .scope) (permitted (entry table k))))
+      (placeOf table (p .client)) known (λ k x. is-known table (p .client) (p .key) k ok x .1))
+      (λ f.
+      row (flip-says (taken l (p .fresh)) (fresh-says l (p .fresh))) (λ v.
+      row (full-says l) (λ r.
+      row (eqb-true (nextNumber l) lastNumber, eq-eqb (nextNumber l) lastNumber) (λ x. none)))))))))
 
   push-turns : (why : Refusal) → (leaves l table (push t p) .number ≡ numberOf why) ↔ Turn why (pushRows l t table p)
-  push-turns why =
-      let (a, b) = push-turn l t table p why in
-      let (c, d) = turn-says why (pushChecks l t table p) (pushRows l t table p) push-agrees in
-      (λ e. c (a e), λ u. b (d u))
+  push-turns why = turns-say _ why (pushChecks l t table p) (pushRows l t table p) push-agrees (push-turn l t table p why)
 
 module _ (l : List ℕ) (t : ℕ) (d : DecideRequest) (out : List ℕ) where
   -- 7 is asked for on yes alone
@@ -156,80 +115,58 @@ module _ (l : List ℕ) (t : ℕ) (d : DecideRequest) (out : List ℕ) where
       place-named (isReference (d .reference) (d .client)) l k
       (reference-first l ok (d .reference) (d .client) k (x .inside) (reference-stands l (d .reference) (d .client) k (x .inside) .1 x))
 
-  decide-agrees : Agree (decideChecks l t d out (referenceAt l d)) (decideRows l t d out)
+  decide-agrees : Agreed (decideChecks l t d out (referenceAt l d)) (decideRows l t d out)
   unfolding decideChecks
-  decide-agrees = (
-    refl,
-    (
-      not-says (sound l) (ledger-says l),
-      λ s.
-          let ok = not-false (sound l) s in (
-            refl,
-            (
-              flip-says (untimely l t) (time-says l t),
-              λ i. (
-                refl,
-                (
-                  (ltb-true (length out) outputLeast, lt-ltb (length out) outputLeast),
-                  λ o. (
-                    refl,
-                    (
-                      none-says (isReference (d .reference) (d .client)) l (StandsAt Pushed l (d .reference) (d .client)) (λ k x. x .inside) (reference-stands l (d .reference) (d .client)),
-                      λ n.
-                          let f = first-in (isReference (d .reference) (d .client)) l (not-false (some (isReference (d .reference) (d .client)) (records l)) n) in (
-                            refl,
-                            (
-                              at-found (λ (k : ℕ). expired t (rec l k)) (StandsAt Pushed l (d .reference) (d .client)) (λ (k : ℕ). expiry (rec l k) ≤ t) (λ k. expired-says t (rec l k))
-                                  (referenceAt l d) (reference-stands l (d .reference) (d .client) (referenceAt l d) (f .inside) .0 (f .passes)) (reference-here ok),
-                              λ e. (
-                                refl,
-                                (
-                                  (eqb-true (d .holder) 0, eq-eqb (d .holder) 0),
-                                  λ h.
-                                      (refl, (taken-says, λ v. tt)),
-                                ),
-                              ),
-                            ),
-                          ),
-                    ),
-                  ),
-                ),
-              ),
-            ),
-          ),
-    ),
-  )
+  decide-agrees =
+      row (not-says (sound l) (ledger-says l)) (λ s.
+      row (flip-says (untimely l t) (time-says l t)) (λ i.
+      row (ltb-true (length out) outputLeast, lt-ltb (length out) outputLeast) (λ o.
+      row
+      (none-says (isReference (d .reference) (d .client)) l (StandsAt Pushed l (d .reference) (d .client)) (λ k x. x .inside) (reference-stands l (d .reference) (d .client)))
+      (λ n.
+      let f = first-in (isReference (d .reference) (d .client)) l (not-false (some (isReference (d .reference) (d .client)) (records l)) n) in
+      let here = reference-stands l (d .reference) (d .client) (referenceAt l d) (f .inside) .0 (f .passes) in
+      row
+      (at-found (λ (k : ℕ). expired t (rec l k)) (StandsAt Pushed l (d .reference) (d .client)) (λ (k : ℕ). expiry (rec l k) ≤ t) (λ k. expired-says t (rec l k))
+      (referenceAt l d) here (reference-here (not-false (sound l) s)))
+      (λ e.
+      row (eqb-true (d .holder) 0, eq-eqb (d .holder) 0) (λ h.
+      row taken-says (λ v. none)))))))
 
   decide-turns : (why : Refusal) → (leaves l [] (decide t d out) .number ≡ numberOf why) ↔ Turn why (decideRows l t d out)
-  decide-turns why =
-      let (a, b) = decide-turn l t d out why in
-      let (x, y) = turn-says why (decideChecks l t d out (referenceAt l d)) (decideRows l t d out) decide-agrees in
-      (λ e. x (a e), λ u. b (y u))
+  decide-turns why = turns-say _ why (decideChecks l t d out (referenceAt l d)) (decideRows l t d out) decide-agrees (decide-turn l t d out why)
 
 module _ (l : List ℕ) (t : ℕ) (table : List ℕ) (q : TokenRequest) where
+  abbrev Waits : ℕ → Type 0
+  Waits k = StandsAt Consented l (q .code) (q .client) k
+
+  abbrev Spent : ℕ → Type 0
+  Spent k = StandsAt Redeemed l (q .code) (q .client) k
+
   -- 14: a code that waits or was redeemed
-  code-either : (k : ℕ) → k < slots l
-      → (isCode (q .code) (q .client) (rec l k) ≡ true) ↔ (StandsAt Consented l (q .code) (q .client) k ⊎ StandsAt Redeemed l (q .code) (q .client) k)
+  code-either : (k : ℕ) → k < slots l → (isCode (q .code) (q .client) (rec l k) ≡ true) ↔ (Waits k ⊎ Spent k)
   code-either k h = (
     λ e. go (inState Redeemed (rec l k)) refl e,
     λ u.
         ⊎-elim (λ w. code-stands l (q .code) (q .client) k h .1 w .0) (λ w. redeemed-stands l (q .code) (q .client) k h .1 w .0) u,
   )
     where
-      go : (b : Bool) → inState Redeemed (rec l k) ≡ b → isCode (q .code) (q .client) (rec l k) ≡ true
-          → StandsAt Consented l (q .code) (q .client) k ⊎ StandsAt Redeemed l (q .code) (q .client) k
+      go : (b : Bool) → inState Redeemed (rec l k) ≡ b → isCode (q .code) (q .client) (rec l k) ≡ true → Waits k ⊎ Spent k
       go true r e = inr (redeemed-stands l (q .code) (q .client) k h .0 (e, r))
       go false r e = inl (code-stands l (q .code) (q .client) k h .0 (e, r))
 
-  code-inside : (k : ℕ) → StandsAt Consented l (q .code) (q .client) k ⊎ StandsAt Redeemed l (q .code) (q .client) k → k < slots l
+  code-inside : (k : ℕ) → Waits k ⊎ Spent k → k < slots l
   code-inside k u = ⊎-elim (λ w. w .inside) (λ w. w .inside) u
 
   code-here : sound l ≡ true → (k : ℕ) → k < slots l → isCode (q .code) (q .client) (rec l k) ≡ true → codeAt l q ≡ k
   code-here ok k h e = place-named (isCode (q .code) (q .client)) l k (code-first l ok (q .code) (q .client) k h e)
 
+  waits-here : sound l ≡ true → (k : ℕ) → Waits k → codeAt l q ≡ k
+  waits-here ok k x = code-here ok k (x .inside) (code-stands l (q .code) (q .client) k (x .inside) .1 x .0)
+
   -- 15, where the record is found
   redeemed-says : sound l ≡ true → some (isCode (q .code) (q .client)) (records l) ≡ true
-      → (inState Redeemed (rec l (codeAt l q)) ≡ true) ↔ ((k : ℕ) × StandsAt Redeemed l (q .code) (q .client) k)
+      → (inState Redeemed (rec l (codeAt l q)) ≡ true) ↔ ((k : ℕ) × Spent k)
   redeemed-says ok there =
       let f = first-in (isCode (q .code) (q .client)) l there in (
         λ e. (codeAt l q, redeemed-stands l (q .code) (q .client) (codeAt l q) (f .inside) .0 (f .passes, e)),
@@ -238,162 +175,76 @@ module _ (l : List ℕ) (t : ℕ) (table : List ℕ) (q : TokenRequest) where
             ap (λ (k : ℕ). inState Redeemed (rec l k)) (code-here ok (x .0) (x .1 .inside) a) ∙ b,
       )
 
-  token-agrees : Agree (tokenChecks l t table q (codeAt l q)) (tokenRows l t table q)
+  token-agrees : Agreed (tokenChecks l t table q (codeAt l q)) (tokenRows l t table q)
   unfolding tokenChecks
-  token-agrees = (
-    refl,
-    (
-      not-says (sound l) (ledger-says l),
-      λ s.
-          let ok = not-false (sound l) s in (
-            refl,
-            (
-              flip-says (untimely l t) (time-says l t),
-              λ i. (
-                refl,
-                (
-                  not-says (tableSound table) (table-says table),
-                  λ y. (
-                    refl,
-                    (
-                      unknown-says table (q .client) (q .key) (not-false (tableSound table) y),
-                      λ u. (
-                        refl,
-                        (
-                          zeros-say (q .presented),
-                          λ z. (
-                            refl,
-                            (
-                              not-says (verifierFormed (q .verifier)) (verifier-says (q .verifier)),
-                              λ w. (
-                                refl,
-                                (
-                                  none-says (isCode (q .code) (q .client)) l (λ (k : ℕ). StandsAt Consented l (q .code) (q .client) k ⊎ StandsAt Redeemed l (q .code) (q .client) k) code-inside code-either,
-                                  λ n.
-                                      let there = not-false (some (isCode (q .code) (q .client)) (records l)) n in
-                                      let f = first-in (isCode (q .code) (q .client)) l there in (
-                                        refl,
-                                        (
-                                          redeemed-says ok there,
-                                          λ r.
-                                              let here = code-stands l (q .code) (q .client) (codeAt l q) (f .inside) .0 (f .passes, r) in
-                                              let only : (k : ℕ) → StandsAt Consented l (q .code) (q .client) k → codeAt l q ≡ k
-                                              = λ k x. code-here ok k (x .inside) (code-stands l (q .code) (q .client) k (x .inside) .1 x .0) in (
-                                                refl,
-                                                (
-                                                  at-found (λ (k : ℕ). expired t (rec l k)) (StandsAt Consented l (q .code) (q .client)) (λ (k : ℕ). expiry (rec l k) ≤ t) (λ k. expired-says t (rec l k)) (codeAt l q) here only,
-                                                  λ e. (
-                                                    refl,
-                                                    (
-                                                      at-found (λ (k : ℕ). not (matches (q .verifier) (challenge (rec l k)))) (StandsAt Consented l (q .code) (q .client)) (λ (k : ℕ). base64url (sha256 (q .verifier)) ≢ challenge (rec l k))
-                                                          (λ k. not-says (matches (q .verifier) (challenge (rec l k))) (match-says (q .verifier) (challenge (rec l k)))) (codeAt l q) here only,
-                                                      λ m.
-                                                          (refl, (flip-says (taken l (q .fresh)) (fresh-says l (q .fresh)), λ v. tt)),
-                                                    ),
-                                                  ),
-                                                ),
-                                              ),
-                                        ),
-                                      ),
-                                ),
-                              ),
-                            ),
-                          ),
-                        ),
-                      ),
-                    ),
-                  ),
-                ),
-              ),
-            ),
-          ),
-    ),
-  )
+  token-agrees =
+      row (not-says (sound l) (ledger-says l)) (λ s.
+      let ok = not-false (sound l) s in
+      row (flip-says (untimely l t) (time-says l t)) (λ i.
+      row (not-says (tableSound table) (table-says table)) (λ y.
+      row (unknown-says table (q .client) (q .key) (not-false (tableSound table) y)) (λ u.
+      row (zeros-say (q .presented)) (λ z.
+      row (not-says (verifierFormed (q .verifier)) (verifier-says (q .verifier))) (λ w.
+      row (none-says (isCode (q .code) (q .client)) l (λ (k : ℕ). Waits k ⊎ Spent k) code-inside code-either) (λ n.
+      let there = not-false (some (isCode (q .code) (q .client)) (records l)) n in
+      let f = first-in (isCode (q .code) (q .client)) l there in
+      row (redeemed-says ok there) (λ r.
+      let here = code-stands l (q .code) (q .client) (codeAt l q) (f .inside) .0 (f .passes, r) in
+      row
+      (at-found (λ (k : ℕ). expired t (rec l k)) Waits (λ (k : ℕ). expiry (rec l k) ≤ t) (λ k. expired-says t (rec l k)) (codeAt l q) here (waits-here ok))
+      (λ e.
+      row
+      (at-found (λ (k : ℕ). not (matches (q .verifier) (challenge (rec l k)))) Waits (λ (k : ℕ). base64url (sha256 (q .verifier)) ≢ challenge (rec l k))
+      (λ k. not-says (matches (q .verifier) (challenge (rec l k))) (match-says (q .verifier) (challenge (rec l k)))) (codeAt l q) here (waits-here ok))
+      (λ m.
+      row (flip-says (taken l (q .fresh)) (fresh-says l (q .fresh))) (λ v. none)))))))))))
 
   token-turns : (why : Refusal) → (leaves l table (token t q) .number ≡ numberOf why) ↔ Turn why (tokenRows l t table q)
-  token-turns why =
-      let (a, b) = token-turn l t table q why in
-      let (x, y) = turn-says why (tokenChecks l t table q (codeAt l q)) (tokenRows l t table q) token-agrees in
-      (λ e. x (a e), λ u. b (y u))
+  token-turns why = turns-say _ why (tokenChecks l t table q (codeAt l q)) (tokenRows l t table q) token-agrees (token-turn l t table q why)
 
 module _ (l : List ℕ) (t : ℕ) (q : ResourceRequest) where
   token-here : sound l ≡ true → (k : ℕ) → TokenAt l (q .token) k → tokenPlace l q ≡ k
   token-here ok k x = place-named (isToken (q .token)) l k (token-first l ok (q .token) k (x .inside) (token-stands l (q .token) k (x .inside) .1 x))
 
-  resource-agrees : Agree (resourceChecks l t q (tokenPlace l q)) (resourceRows l t q)
+  -- a test of the record with this token
+  on-token : (b : ℕ → Bool) (P : ℕ → Type 0) → ((k : ℕ) → (b k ≡ true) ↔ P k) → sound l ≡ true → some (isToken (q .token)) (records l) ≡ true
+      → (b (tokenPlace l q) ≡ true) ↔ ((k : ℕ) × TokenAt l (q .token) k × P k)
+  on-token b P says ok there =
+      let f = first-in (isToken (q .token)) l there in
+      at-found b (TokenAt l (q .token)) P says (tokenPlace l q) (token-stands l (q .token) (tokenPlace l q) (f .inside) .0 (f .passes)) (token-here ok)
+
+  resource-agrees : Agreed (resourceChecks l t q (tokenPlace l q)) (resourceRows l t q)
   unfolding resourceChecks
-  resource-agrees = (
-    refl,
-    (
-      not-says (sound l) (ledger-says l),
-      λ s.
-          let ok = not-false (sound l) s in (
-            refl,
-            (
-              flip-says (untimely l t) (time-says l t),
-              λ i. (
-                refl,
-                (
-                  none-says (isToken (q .token)) l (TokenAt l (q .token)) (λ k x. x .inside) (token-stands l (q .token)),
-                  λ n.
-                      let f = first-in (isToken (q .token)) l (not-false (some (isToken (q .token)) (records l)) n) in
-                      let here = token-stands l (q .token) (tokenPlace l q) (f .inside) .0 (f .passes) in (
-                        refl,
-                        (
-                          at-found (λ (k : ℕ). expired t (rec l k)) (TokenAt l (q .token)) (λ (k : ℕ). expiry (rec l k) ≤ t) (λ k. expired-says t (rec l k)) (tokenPlace l q) here (token-here ok),
-                          λ e. (
-                            refl,
-                            (
-                              at-found (λ (k : ℕ). not (same (boundKey (rec l k)) (q .presented))) (TokenAt l (q .token)) (λ (k : ℕ). boundKey (rec l k) ≢ q .presented)
-                                  (λ k. not-says (same (boundKey (rec l k)) (q .presented)) (same-eq (boundKey (rec l k)) (q .presented), same-of (boundKey (rec l k)) (q .presented))) (tokenPlace l q) here (token-here ok),
-                              λ b. (
-                                refl,
-                                (
-                                  at-found (λ (k : ℕ). not (scopeFits (q .scope) (scope (rec l k)))) (TokenAt l (q .token)) (λ (k : ℕ). Not (ScopeWithin (q .scope) (scope (rec l k))))
-                                      (λ k. not-says (scopeFits (q .scope) (scope (rec l k))) (scope-says (q .scope) (scope (rec l k)))) (tokenPlace l q) here (token-here ok),
-                                  λ c. (
-                                    refl,
-                                    (
-                                      at-found (λ (k : ℕ). not (eqb (holder (rec l k)) (q .holder))) (TokenAt l (q .token)) (λ (k : ℕ). holder (rec l k) ≢ q .holder)
-                                          (λ k. not-says (eqb (holder (rec l k)) (q .holder)) (eqb-true (holder (rec l k)) (q .holder), eq-eqb (holder (rec l k)) (q .holder))) (tokenPlace l q) here (token-here ok),
-                                      λ h. tt,
-                                    ),
-                                  ),
-                                ),
-                              ),
-                            ),
-                          ),
-                        ),
-                      ),
-                ),
-              ),
-            ),
-          ),
-    ),
-  )
+  resource-agrees =
+      row (not-says (sound l) (ledger-says l)) (λ s.
+      let ok = not-false (sound l) s in
+      row (flip-says (untimely l t) (time-says l t)) (λ i.
+      row (none-says (isToken (q .token)) l (TokenAt l (q .token)) (λ k x. x .inside) (token-stands l (q .token))) (λ n.
+      let there = not-false (some (isToken (q .token)) (records l)) n in
+      row (on-token (λ (k : ℕ). expired t (rec l k)) (λ (k : ℕ). expiry (rec l k) ≤ t) (λ k. expired-says t (rec l k)) ok there) (λ e.
+      row
+      (on-token (λ (k : ℕ). not (same (boundKey (rec l k)) (q .presented))) (λ (k : ℕ). boundKey (rec l k) ≢ q .presented)
+      (λ k. not-says (same (boundKey (rec l k)) (q .presented)) (same-eq (boundKey (rec l k)) (q .presented), same-of (boundKey (rec l k)) (q .presented))) ok there)
+      (λ b.
+      row
+      (on-token (λ (k : ℕ). not (scopeFits (q .scope) (scope (rec l k)))) (λ (k : ℕ). Not (ScopeWithin (q .scope) (scope (rec l k))))
+      (λ k. not-says (scopeFits (q .scope) (scope (rec l k))) (scope-says (q .scope) (scope (rec l k)))) ok there)
+      (λ c.
+      row
+      (on-token (λ (k : ℕ). not (eqb (holder (rec l k)) (q .holder))) (λ (k : ℕ). holder (rec l k) ≢ q .holder)
+      (λ k. not-says (eqb (holder (rec l k)) (q .holder)) (eqb-true (holder (rec l k)) (q .holder), eq-eqb (holder (rec l k)) (q .holder))) ok there)
+      (λ h. none)))))))
 
   resource-turns : (why : Refusal) → (leaves l [] (resource t q) .number ≡ numberOf why) ↔ Turn why (resourceRows l t q)
-  resource-turns why =
-      let (a, b) = resource-turn l t q why in
-      let (x, y) = turn-says why (resourceChecks l t q (tokenPlace l q)) (resourceRows l t q) resource-agrees in
-      (λ e. x (a e), λ u. b (y u))
+  resource-turns why = turns-say _ why (resourceChecks l t q (tokenPlace l q)) (resourceRows l t q) resource-agrees (resource-turn l t q why)
 
 module _ (l : List ℕ) (t : ℕ) where
-  sweep-agrees : Agree (sweepChecks l t) (begins l t [])
+  sweep-agrees : Agreed (sweepChecks l t) (begins l t [])
   unfolding sweepChecks
-  sweep-agrees = (refl, (not-says (sound l) (ledger-says l), λ s. (refl, (flip-says (untimely l t) (time-says l t), λ i. tt))))
+  sweep-agrees = row (not-says (sound l) (ledger-says l)) (λ s. row (flip-says (untimely l t) (time-says l t)) (λ i. none))
 
   sweep-turns : (why : Refusal) → (leaves l [] (sweep t) .number ≡ numberOf why) ↔ Turn why (begins l t [])
-  sweep-turns why =
-      let (a, b) = sweep-turn l t why in
-      let (x, y) = turn-says why (sweepChecks l t) (begins l t []) sweep-agrees in
-      (λ e. x (a e), λ u. b (y u))
-
-start-turns : (l : List ℕ) (why : Refusal) → (leaves l [] start .number ≡ numberOf why) ↔ Turn why (startRows l)
-start-turns l why =
-    let (a, b) = start-turn l why in
-    let (x, y) = turn-says why (startChecks l) (startRows l) (start-agrees l) in
-    (λ e. x (a e), λ u. b (y u))
+  sweep-turns why = turns-say _ why (sweepChecks l t) (begins l t []) sweep-agrees (sweep-turn l t why)
 
 pub turns : (l table : List ℕ) (c : Call) (why : Refusal) → (leaves l table c .number ≡ numberOf why) ↔ Turn why (rows l table c)
 turns l table start why = start-turns l why

@@ -19,7 +19,7 @@ use Rattle.history.proofs.Runs.{Good, good-last, good-start, along}
 use Rattle.history.proofs.Balance.{Balanced, balanced-step}
 use Rattle.history.proofs.Numbers.{Numbered, numbered-step, numbered-start}
 use Rattle.history.proofs.Invariant.{started-at, inv-start}
-use Rattle.history.proofs.Readings.{Kept, kept-step, kept-start, odd, odd-step, token-before, value-closed}
+use Rattle.history.proofs.Readings.{Kept, kept-step, kept-start, odd, odd-step, token-before, told, value-closed}
 
 -- ---- nothing waits at the start
 
@@ -77,6 +77,7 @@ module _ (n : ℕ) (good : Good (started n)) where
         permissions = λ cs y k h. tokens-most (just k h) cs y;
         permissions-all = tokens-most anyone;
         readings = λ cs y. kept-run cs y .chains;
+        reading-told = told (started n);
         stays = λ cs y. kept-run cs y .standing;
         in-time = λ cs y. kept-run cs y .inv .life;
         numbers = λ cs y. numbers-run cs y .are;

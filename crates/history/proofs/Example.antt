@@ -25,8 +25,8 @@ use Rattle.clients.specs.Fields.{client, entries}
 use Rattle.clients.specs.Known.{hasId, hasKey, placeOf, isKnown}
 use Rattle.clients.specs.Sound.{lengthRight, idGiven, idsGiven, keyGiven, keysGiven, sameId, idsDistinct, restZero, restsZero, sound as tableSound}
 use Rattle.ledger.specs.Checks.{untimely, taken, isFree, isWith, isReference, isCode, isToken}
-use Rattle.ledger.specs.Fields.{rec, slots, records}
-use Rattle.ledger.specs.Sound.{sized, numbersSound, bytesSound, recordSound, sameGrant, holds, meets, ownApart, headSound, sound}
+use Rattle.ledger.specs.Fields.{rec, slots, records, stated}
+use Rattle.ledger.specs.Sound.{sized, numbersSound, bytesSound, usedSound, noToken, someToken, recordSound, sameGrant, holds, meets, ownApart, headSound, sound}
 use Rattle.ledger.specs.Sweep.{sweptRecord, sweptTo, swept, due, freedOf, freed}
 use Rattle.ledger.specs.Write.{pushed, consented, redeemed, free}
 use Rattle.desk.specs.Checks.{first, scopeFits}
@@ -109,7 +109,7 @@ typed-resource t h =
 -- ---- the runs
 
 pub example : Example
-unfolding tabulate numFrom num digits laid put blank zeros same visible urlSafe unreserved redirectFormed challengeFormed verifierFormed redirectPrefix K added compress hashValue joined sha256 pad blocks T1 round rounds next words schedule Σ0 Σ1 σ0 σ1 letter characters base64url matches client entries hasId hasKey placeOf isKnown lengthRight idGiven idsGiven keyGiven keysGiven sameId idsDistinct restZero restsZero tableSound untimely taken isFree isWith isReference isCode isToken rec slots records sized numbersSound bytesSound recordSound sameGrant holds meets ownApart headSound sound sweptRecord sweptTo swept due freedOf freed pushed consented redeemed free first scopeFits fresh pushChecks pushRecord pushAt doPush decideChecks consentRecord consentAt declineAt decideAt doDecide tokenChecks tokenRecord tokenAt doToken resourceChecks look doResource sweepChecks doSweep step listed
+unfolding tabulate numFrom num digits laid put blank zeros same visible urlSafe unreserved redirectFormed challengeFormed verifierFormed redirectPrefix K added compress hashValue joined sha256 pad blocks T1 round rounds next words schedule Σ0 Σ1 σ0 σ1 letter characters base64url matches client entries hasId hasKey placeOf isKnown lengthRight idGiven idsGiven keyGiven keysGiven sameId idsDistinct restZero restsZero tableSound untimely taken isFree isWith isReference isCode isToken rec slots records sized numbersSound bytesSound usedSound noToken someToken stated recordSound sameGrant holds meets ownApart headSound sound sweptRecord sweptTo swept due freedOf freed pushed consented redeemed free first scopeFits fresh pushChecks pushRecord pushAt doPush decideChecks consentRecord consentAt declineAt decideAt doDecide tokenChecks tokenRecord tokenAt doToken resourceChecks look doResource sweepChecks doSweep step listed
 example =
     record {
       opening-typed = (

@@ -5,14 +5,14 @@ use native.Mathlib.Decide.{ℕ-discrete}
 use mathlib.Core.Path.{_≡_, refl, sym, ap, _∙_}
 use mathlib.Core.Logic.{inl, inr, ⊎-elim}
 use mathlib.Core.Bool.{Bool, true, false, not, cond, _&&_, _||_, false≢true, or-true, and-false}
-use mathlib.Core.List.{List, [], _∷_, _++_, append-nil}
+use mathlib.Core.List.{List, [], _∷_, _++_, append-nil, append-assoc}
 use lib.Dec.{eqb}
 use lib.ListN.{length, length-append}
 use Rattle.octets.specs.Lists.{some, place}
 use Rattle.octets.specs.Parts.{zeros, same}
 use Rattle.octets.proofs.Tests.{both, false-of}
 use Rattle.octets.proofs.Parts.{same-eq, same-refl}
-use Rattle.ledger.specs.Fields.{rec, slots, records, used, grant, client, value, token as tokenField}
+use Rattle.ledger.specs.Fields.{rec, slots, records, used, grant, value, token as tokenField}
 use Rattle.upkeep.proofs.Says.{neither, of-sound}
 use Rattle.upkeep.proofs.Searches.{first-in}
 use Rattle.desk.specs.Requests.{ResourceRequest}
@@ -23,8 +23,8 @@ use Rattle.desk.specs.Token.{codeAt, tokenAt}
 use Rattle.desk.specs.Resource.{tokenPlace}
 use Rattle.conduct.proofs.Turns.{Passed}
 use Rattle.conduct.proofs.Facts.{resource-facts}
-use Rattle.history.specs.Runs.{Call, push, decide, token, resource, sweep, Typed, Said, Step, step, numberIn, accepted, grantOf, holderOf}
-use Rattle.history.specs.Events.{Push, Consent, No, Token, SecondUse, Reading, Event, event, ofRecord, happened, eventsOf, rank, is, listed}
+use Rattle.history.specs.Runs.{Call, push, decide, token, resource, sweep, Typed, Said, Step, step, numberIn, accepted, grantOf, holderOf, steps, last}
+use Rattle.history.specs.Events.{Push, Consent, No, Token, SecondUse, Reading, Event, event, ofRecord, provided, readerOf, happened, eventsOf, events, rank, is, listed}
 use Rattle.history.specs.Histories.{enters, concerns, history, asToken, issued, Granted, Chain, Life, unborn, asked, decided, redeemed}
 use Rattle.history.specs.Demand3.{reading, stands}
 use Rattle.history.proofs.Steps.{checksOf, acceptance, refusal, step-cases, refused-not}
@@ -235,7 +235,7 @@ odd-none v (token t table q) a l m =
     some-either (odd v) (accepted a) (eqb (numberIn a) (numberOf CodeRedeemed)) (event Token (q .client) (holderOf a) (grantOf a) (token t table q))
     (ofRecord SecondUse (rec l (codeAt l q)) (token t table q)) (and-false (same (q .fresh) v)) (and-false (same (q .fresh) v))
 odd-none v (resource t q) a l m =
-    some-provided (odd v) (accepted a) (event Reading (client (rec l (tokenPlace l q))) (holderOf a) (grantOf a) (resource t q)) refl
+    some-provided (odd v) (accepted a) (event Reading (readerOf l q) (holderOf a) (grantOf a) (resource t q)) refl
 odd-none v (sweep t) a l m = dropped-none (odd v) (sweep t) (λ r. refl) (records l) (records m)
 
 pub odd-step : (v l : List ℕ) (es : List Event) (c : Call) → some (odd v) es ≡ false → some (odd v) (es ++ eventsOf (step l c)) ≡ false
@@ -258,25 +258,44 @@ unfolding listed
 issued-in g v [] o h = h
 issued-in g v (e ∷ es) o h = go (concerns g e) refl (issued-in g v es (neither (odd v e) _ o .1))
   where
-    last : (some (asToken v) (history g es) ≡ true → issued v es ≡ true) → some (asToken v) (history g es) ≡ true
+    rest : (some (asToken v) (history g es) ≡ true → issued v es ≡ true) → some (asToken v) (history g es) ≡ true
         → ((is Token e && asToken v (e .call)) || issued v es) ≡ true
-    last ih z = rw (ih z) (or-true (is Token e && asToken v (e .call)))
+    rest ih z = rw (ih z) (or-true (is Token e && asToken v (e .call)))
 
     by : (a : Bool) → asToken v (e .call) ≡ a → concerns g e ≡ true → (a || some (asToken v) (history g es)) ≡ true
         → (some (asToken v) (history g es) ≡ true → issued v es ≡ true) → ((is Token e && asToken v (e .call)) || issued v es) ≡ true
     by true p c z ih = rw (tokenly (asToken v (e .call)) (enters (e .kind)) (eqb g (e .grant)) (is Token e) (neither (odd v e) _ o .0) p c)
-    by false p c z ih = last ih z
+    by false p c z ih = rest ih z
 
     go : (b : Bool) → concerns g e ≡ b → (some (asToken v) (history g es) ≡ true → issued v es ≡ true)
         → ((is Token e && asToken v (e .call)) || issued v es) ≡ true
     go true p ih = by (asToken v (e .call)) refl p (rw p at h) ih
-    go false p ih = last ih (rw p at h)
+    go false p ih = rest ih (rw p at h)
 
 pub token-before : (es : List Event) (r : Granted es) → some (odd (r .request .token)) es ≡ false
     → Chain (r .time) (r .request) (history (r .grant) (r .before)) → issued (r .request .token) (r .before) ≡ true
 token-before es r o x =
     issued-in (r .grant) (r .request .token) (r .before) (odd-before _ (r .before) _ (r .after) (rw (r .whole) at o))
     (rw (x .order, x .token-issued, same-refl (x .redeemed .fresh)))
+
+-- ---- a granted reading is an event
+
+events-more : (l : List ℕ) (cs : List Call) (c : Call) → events (steps l (cs ++ (c ∷ []))) ≡ events (steps l cs) ++ eventsOf (step (last l cs) c)
+events-more l [] c = append-nil _
+events-more l (d ∷ cs) c =
+    ap (λ (es : List Event). eventsOf (step l d) ++ es) (events-more (step l d .after) cs c)
+    ∙ sym (append-assoc (eventsOf (step l d)) (events (steps (step l d .after) cs)) (eventsOf (step (last (step l d .after) cs) c)))
+
+reading-event : (l : List ℕ) (t : ℕ) (q : ResourceRequest) → accepted (reading l t q) ≡ true
+    → eventsOf (step l (resource t q)) ≡ event Reading (readerOf l q) (holderOf (reading l t q)) (grantOf (reading l t q)) (resource t q) ∷ []
+unfolding step
+reading-event l t q h =
+    ap (λ (b : Bool). provided b (event Reading (readerOf l q) (holderOf (reading l t q)) (grantOf (reading l t q)) (resource t q))) h
+
+pub told : (l : List ℕ) (cs : List Call) (t : ℕ) (q : ResourceRequest) → accepted (reading (last l cs) t q) ≡ true
+    → events (steps l (cs ++ (resource t q ∷ [])))
+    ≡ events (steps l cs) ++ (event Reading (readerOf (last l cs) q) (holderOf (reading (last l cs) t q)) (grantOf (reading (last l cs) t q)) (resource t q) ∷ [])
+told l cs t q h = events-more l cs (resource t q) ∙ ap (λ (es : List Event). events (steps l cs) ++ es) (reading-event (last l cs) t q h)
 
 -- ---- a value that stands in the ledger is no token of it
 

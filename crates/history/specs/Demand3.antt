@@ -4,7 +4,7 @@ use Prim.Native.Nat.{ℕ, _+_, _*_, _≤_}
 use mathlib.Core.Path.{_≡_}
 use mathlib.Core.Logic.{_≢_}
 use mathlib.Core.Bool.{Bool, true, false, _&&_}
-use mathlib.Core.List.{List}
+use mathlib.Core.List.{List, [], _∷_, _++_}
 use lib.ListN.{length}
 use Rattle.octets.specs.Lists.{some, tabulate}
 use Rattle.octets.specs.Parts.{same}
@@ -15,8 +15,8 @@ use Rattle.desk.specs.Answers.{numberOf, done}
 use Rattle.desk.specs.Requests.{ResourceRequest}
 use Rattle.desk.specs.Start.{start}
 use Rattle.desk.specs.declared.answer.Refusal.the-variants.{LedgerUnsound}
-use Rattle.history.specs.Runs.{Call, resource, AllTyped, Said, step, numberIn, accepted, started, lastIn}
-use Rattle.history.specs.Events.{eventsIn}
+use Rattle.history.specs.Runs.{Call, resource, AllTyped, Said, step, numberIn, accepted, grantOf, holderOf, started, lastIn}
+use Rattle.history.specs.Events.{Reading, event, readerOf, eventsIn}
 use Rattle.history.specs.Counts.{just, anyone, consents, tokens, drops, waiting}
 use Rattle.history.specs.Histories.{history, numbersOf, issued, Granted, Chain, Life}
 
@@ -39,6 +39,10 @@ pub record Demand3 (n : ℕ) : Type 0 where
   pub permissions-all : (cs : List Call) → AllTyped cs → tokens anyone (eventsIn n cs) ≤ consents anyone (eventsIn n cs)
   -- "Each granted reading names a grant number whose history has exactly one push, one consent and one token, in that order: .."
   pub readings : (cs : List Call) → AllTyped cs → (r : Granted (eventsIn n cs)) → Chain (r .time) (r .request) (history (r .grant) (r .before))
+  -- (every reading that is granted is such an event, the last of the events so far, with the grant number answered)
+  pub reading-told : (cs : List Call) (t : ℕ) (q : ResourceRequest) → accepted (reading (lastIn n cs) t q) ≡ true
+      → eventsIn n (cs ++ (resource t q ∷ []))
+      ≡ eventsIn n cs ++ (event Reading (readerOf (lastIn n cs) q) (holderOf (reading (lastIn n cs) t q)) (grantOf (reading (lastIn n cs) t q)) (resource t q) ∷ [])
   -- and whatever is called later, that history does not change
   pub stays : (cs : List Call) → AllTyped cs → (r : Granted (eventsIn n cs)) → history (r .grant) (eventsIn n cs) ≡ history (r .grant) (r .before)
   -- the consent comes under 599 seconds after its push, the token under 60 after its consent: of every grant number, read or not

@@ -7,6 +7,7 @@ use lib.Dec.{eqb}
 use Rattle.ledger.specs.Fields.{records, rec, inState, client, holder, grant}
 use Rattle.ledger.specs.declared.state.State.the-variants.{Free, Consented}
 use Rattle.desk.specs.Answers.{numberOf}
+use Rattle.desk.specs.Requests.{ResourceRequest}
 use Rattle.desk.specs.Token.{codeAt}
 use Rattle.desk.specs.Resource.{tokenPlace}
 use Rattle.desk.specs.declared.answer.Refusal.the-variants.{CodeRedeemed}
@@ -47,6 +48,10 @@ dropped c [] ss = []
 dropped c (r ∷ rs) [] = []
 dropped c (r ∷ rs) (s ∷ ss) = provided (inState Consented r && inState Free s) (ofRecord Drop r c) ++ dropped c rs ss
 
+-- the client of the record that has the token shown
+abbrev pub readerOf : List ℕ → ResourceRequest → List ℕ
+readerOf l q = client (rec l (tokenPlace l q))
+
 -- the map: call, answer, ledger before, ledger after
 abbrev pub happened : Call → Said → List ℕ → List ℕ → List Event
 -- a push that was accepted: its client, and the grant number answered; no holder yet, 0 is answered
@@ -60,7 +65,7 @@ happened (token t table q) a l m =
     ++ provided (eqb (numberIn a) (numberOf CodeRedeemed)) (ofRecord SecondUse (rec l (codeAt l q)) (token t table q))
 -- a reading that was granted: the client of the token's record, the holder and the grant number answered
 happened (resource t q) a l m =
-    provided (accepted a) (event Reading (client (rec l (tokenPlace l q))) (holderOf a) (grantOf a) (resource t q))
+    provided (accepted a) (event Reading (readerOf l q) (holderOf a) (grantOf a) (resource t q))
 happened (sweep t) a l m = dropped (sweep t) (records l) (records m)
 
 abbrev pub eventsOf : Step → List Event

@@ -1,21 +1,21 @@
--- Lists of zeros and lists of bytes: their parts are such, and so is what is put together of such; lists that agree part by part.
+-- Lists of zeros and lists of bytes: their parts are such, and so is what is put together of such.
 use Prim.Native.Nat.{ℕ, zero, suc, _+_, _*_, _≤_, _<_}
 use native.Mathlib.Omega.{arith}
 use native.Mathlib.Decide.{decLt}
-use mathlib.Core.Path.{_≡_, refl, sym, ap, ap₂, _∙_}
-use mathlib.Core.Logic.{_≢_, _↔_}
+use mathlib.Core.Path.{_≡_, refl}
+use mathlib.Core.Logic.{_↔_}
 use mathlib.Core.Bool.{Bool, true, false, _&&_, true≢false}
 use mathlib.Core.List.{List, [], _∷_, _++_}
 use lib.Dec.{eqb}
-use lib.ListN.{length, getD, take, drop, length-take, length-drop, drop-of-length-le, take-append-drop, List·getD-eq-default}
-use lib.Seq.{getD-take, getD-drop, drop-cons, drop-drop}
+use lib.ListN.{length, getD, take, drop, length-take, take-append-drop, List·getD-eq-default}
+use lib.Seq.{getD-take, getD-drop}
 use borrow.Author.Tests.{eqb-true, eqb-false, eq-eqb}
 use Rattle.octets.specs.Parts.{part, splice, laid, put, blank, zeros}
-use Rattle.octets.specs.Numbers.{num, numFrom, digits}
+use Rattle.octets.specs.Numbers.{num, numFrom}
 use Rattle.octets.specs.Plain.{AllZero, NotZero}
 use Rattle.octets.proofs.Tests.{both, both-true, false-of}
-use Rattle.octets.proofs.Parts.{zeros-append, zeros-blank, zeros-eq, part-length}
-use Rattle.octets.proofs.Numbers.{Octets, digits-num}
+use Rattle.octets.proofs.Parts.{zeros-append, zeros-blank}
+use Rattle.octets.proofs.Numbers.{Octets}
 
 -- ---- zeros
 
@@ -99,45 +99,3 @@ octets-zeros xs e i = rw (zeros-at xs e i) (omega arith)
 
 pub octets-blank : (n : ℕ) → Octets (blank n)
 octets-blank n = octets-zeros (blank n) (zeros-blank n)
-
--- ---- lists that agree part by part
-
--- in the parts of these widths, one behind the other from a on
-abbrev pub Agree : ℕ → List ℕ → List ℕ → List ℕ → Type 0
-Agree a [] r s = Unit {0}
-Agree a (w ∷ ws) r s = (part r a w ≡ part s a w) × Agree (a + w) ws r s
-
-abbrev pub total : List ℕ → ℕ
-total [] = 0
-total (w ∷ ws) = w + total ws
-
--- where the parts are all there is, the lists are the same from a on
-pub agree-eq : (a : ℕ) (ws r s : List ℕ) → length r ≤ a + total ws → length s ≤ a + total ws → Agree a ws r s → drop a r ≡ drop a s
-agree-eq a [] r s h k e =
-    let m : length r ≤ a = omega arith in
-    let n : length s ≤ a = omega arith in
-    drop-of-length-le r m ∙ sym (drop-of-length-le s n)
-agree-eq a (w ∷ ws) r s h k e =
-    let t : drop (a + w) r ≡ drop (a + w) s = agree-eq (a + w) ws r s (omega arith) (omega arith) (e .1) in
-    sym (take-append-drop w (drop a r))
-    ∙ ap₂ _++_ (e .0) (drop-drop w a r ∙ t ∙ sym (drop-drop w a s))
-    ∙ take-append-drop w (drop a s)
-
-module _ (r s : List ℕ) (a : ℕ) where
-  -- a byte
-  pub agree-byte : a < length r → a < length s → getD r a 0 ≡ getD s a 0 → part r a 1 ≡ part s a 1
-  agree-byte h k e = rw (drop-cons r a 0 h, drop-cons s a 0 k, e)
-
-  module _ (n : ℕ) (in-r : a + n ≤ length r) (in-s : a + n ≤ length s) where
-    -- a number
-    pub agree-number : Octets r → Octets s → num (part r a n) ≡ num (part s a n) → part r a n ≡ part s a n
-    agree-number o p e =
-        let h : n ≤ length (drop a r) = simp length-drop (omega arith) in
-        let k : n ≤ length (drop a s) = simp length-drop (omega arith) in
-        sym (digits-num (drop a r) n (octets-drop a r o) h) ∙ ap (digits n) e ∙ digits-num (drop a s) n (octets-drop a s p) k
-
-    -- zeros
-    pub agree-zeros : zeros (part r a n) ≡ true → zeros (part s a n) ≡ true → part r a n ≡ part s a n
-    agree-zeros z y =
-        zeros-eq (part r a n) z
-        ∙ ap blank (part-length r a n in-r ∙ sym (part-length s a n in-s)) ∙ sym (zeros-eq (part s a n) y)

@@ -149,6 +149,10 @@ fresh-taken l v f =
 
 -- ---- in a sound ledger: a free record is all zeros, and what is found is the only one
 
+pub free-found : (l : List ℕ) → sound l ≡ true → (k : ℕ) → k < slots l → isFree (rec l k) ≡ true → rec l k ≡ free
+unfolding isFree
+free-found l s k h e = free-is (rec l k) (rec-length l k h) (of-sound l s .within .each k h .when-free (eqb-true (state (rec l k)) 0 e))
+
 -- a value stands in one record
 pub alone : (next : ℕ) (l : List ℕ) → SoundRecords next l → (v : List ℕ) (i j : ℕ) → i < slots l → j < slots l
     → holds v (rec l i) ≡ true → holds v (rec l j) ≡ true → i ≡ j
