@@ -4,6 +4,9 @@
 //! Every call checks for itself what it reads, and ends with an answer or a [`Refusal`]; a refusal has changed nothing.
 //! What the front must have checked before a call is said at that call's request. docs/FRONT.md says how to keep the bytes.
 //!
+//! What a refusal is on the wire is [`Refusal::at`] a [`Call`]. A value travels by its `to_text` and comes back by its `from_text`,
+//! which reads one spelling. Nothing here shows a value, a code, a token, a verifier or a key by `Debug`.
+//!
 //! ```compile_fail
 //! let mut bytes = [0; perdigolh::ledger_bytes(1)];
 //! let mut one = perdigolh::Ledger::lent(&mut bytes);
