@@ -20,7 +20,7 @@ use Rattle.ledger.specs.declared.sweep.Freed.{Freed}
 use Rattle.desk.specs.Outcome.{Outcome}
 use Rattle.desk.specs.declared.answer.Answer.{Answer}
 use Rattle.desk.specs.declared.answer.Swept.{Swept}
-use Rattle.conduct.proofs.Turns.{number-refused}
+use Rattle.desk.proofs.Turns.{number-refused}
 use Rattle.conduct.proofs.Rows.{push-cases, sweep-cases}
 use Rattle.conduct.proofs.Facts.{push-facts}
 use Rattle.history.proofs.Effects.{push-after}

@@ -17,7 +17,7 @@ use Rattle.sha256.specs.Pad.{pad, blocks}
 use Rattle.sha256.specs.Round.{T1, round, rounds}
 use Rattle.sha256.specs.Schedule.{next, words, schedule}
 use Rattle.sha256.specs.Word.{Σ0, Σ1, σ0, σ1}
-use Rattle.s256.specs.Base64url.{letter, characters, base64url}
+use Rattle.texts.specs.Base64url.{letter, characters, base64url}
 use Rattle.s256.specs.Rule.{matches}
 use Rattle.clients.specs.Fields.{permitted, client, entries}
 use Rattle.clients.specs.Known.{hasId, hasKey, placeOf, isKnown}
@@ -27,8 +27,8 @@ use Rattle.ledger.specs.Fields.{rec, slots, records, stated}
 use Rattle.ledger.specs.Sound.{sized, numbersSound, bytesSound, usedSound, noToken, someToken, recordSound, sameGrant, holds, meets, ownApart, headSound, sound}
 use Rattle.ledger.specs.Write.{pushed, consented, redeemed, free}
 use Rattle.desk.specs.Checks.{first, scopeFits}
-use Rattle.desk.specs.Start.{fresh}
-use Rattle.desk.specs.Push.{asker, pushChecks, pushRecord, pushAt, push as doPush}
+use Rattle.desk.specs.Start.{emptyLedger}
+use Rattle.desk.specs.Push.{clientRecord, pushChecks, pushRecord, pushAt, push as doPush}
 use Rattle.desk.specs.declared.answer.Refusal.the-variants.{IllFormed, ScopeRefused, FreshTaken, RecordExpired}
 use Rattle.desk.specs.Answers.{done}
 use Rattle.octets.proofs.Parts.{length-blank}
@@ -60,7 +60,7 @@ redeemedAt t = step (consentedAt 1000 text43) (token t table (redeeming (secret 
 -- ---- P4 to P6: two calls, the first accepted
 
 bytes-started : Bytes (started 1)
-unfolding fresh
+unfolding emptyLedger
 bytes-started = octets-started 288
 
 abbrev pushing : Call
@@ -125,7 +125,7 @@ resource-met t a e =
 
 -- ---- P7 to P11: one call
 
-scope-met : (bits : ℕ) → permitted (asker table (asking bits text43 shortest)) ≡ 5
+scope-met : (bits : ℕ) → permitted (clientRecord table (asking bits text43 shortest)) ≡ 5
     → elseInOrder ScopeRefused (checksOf (started 1) (push 1000 table (asking bits text43 shortest))) ≡ true
     → PushScope 5 bits (started 1) (push 1000 table (asking bits text43 shortest))
 scope-met bits p e =
@@ -187,7 +187,7 @@ abbrev met : {r : Row} (x : Input (r .varied)) → InOrder (r .varied) x → Met
 met x o = record { input = x; in-order = o }
 
 pub every-row-is-met : Each Met rows
-unfolding tabulate numFrom num digits laid put blank zeros same visible urlSafe unreserved redirectFormed challengeFormed verifierFormed redirectPrefix client entries hasId hasKey placeOf isKnown lengthRight idGiven idsGiven keyGiven keysGiven sameId idsDistinct restZero restsZero tableSound untimely taken isFree isWith isReference isCode isToken rec slots records sized stated numbersSound bytesSound usedSound noToken someToken recordSound sameGrant holds meets ownApart headSound sound pushed consented redeemed free first scopeFits fresh pushChecks pushRecord pushAt doPush decideChecks consentRecord consentAt declineAt decideAt doDecide tokenChecks tokenRecord tokenAt doToken resourceChecks look doResource step elseInOrder K added compress hashValue joined sha256 pad blocks T1 round rounds next words schedule Σ0 Σ1 σ0 σ1 letter characters base64url matches
+unfolding tabulate numFrom num digits laid put blank zeros same visible urlSafe unreserved redirectFormed challengeFormed verifierFormed redirectPrefix client entries hasId hasKey placeOf isKnown lengthRight idGiven idsGiven keyGiven keysGiven sameId idsDistinct restZero restsZero tableSound untimely taken isFree isWith isReference isCode isToken rec slots records sized stated numbersSound bytesSound usedSound noToken someToken recordSound sameGrant holds meets ownApart headSound sound pushed consented redeemed free first scopeFits emptyLedger pushChecks pushRecord pushAt doPush decideChecks consentRecord consentAt declineAt decideAt doDecide tokenChecks tokenRecord tokenAt doToken resourceChecks look doResource step elseInOrder K added compress hashValue joined sha256 pad blocks T1 round rounds next words schedule Σ0 Σ1 σ0 σ1 letter characters base64url matches
 every-row-is-met =
     met (replicate 288 7) refl
     and met (replicate 288 7) refl

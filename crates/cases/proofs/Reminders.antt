@@ -19,11 +19,11 @@ use Rattle.upkeep.proofs.Searches.{first-in, none-found, alone, code-holds, cod
 use Rattle.desk.specs.Answers.{numberOf, done}
 use Rattle.desk.specs.Checks.{Check, stopped, first}
 use Rattle.desk.specs.Requests.{TokenRequest, ResourceRequest}
-use Rattle.desk.specs.Token.{codeAt, tokenRecord, tokenChecks}
+use Rattle.desk.specs.Token.{codePlace, tokenRecord, tokenChecks}
 use Rattle.desk.specs.Resource.{tokenPlace, resourceChecks}
 use Rattle.desk.specs.declared.answer.Refusal.{Refusal}
 use Rattle.desk.specs.declared.answer.Refusal.the-variants.{NoCode, CodeRedeemed, KeyDiffers}
-use Rattle.conduct.proofs.Turns.{numberBy}
+use Rattle.desk.proofs.Turns.{numberBy}
 use Rattle.conduct.proofs.Alone.{push-unchanged, decide-unchanged, token-unchanged, resource-unchanged, sweep-unchanged}
 use Rattle.conduct.proofs.Readings.{place-named}
 use Rattle.history.specs.Runs.{Call, push, decide, token, resource, sweep, TypedToken, step}
@@ -70,7 +70,7 @@ twice : (b : Bool) → not (not b) ≡ true → b ≡ true
 twice true e = refl
 twice false e = e
 
-other-client : (l : List ℕ) (t : ℕ) (table : List ℕ) (q : TokenRequest) (k : ℕ) → comesTo NoCode (tokenChecks l t table q (codeAt l q)) ≡ true
+other-client : (l : List ℕ) (t : ℕ) (table : List ℕ) (q : TokenRequest) (k : ℕ) → comesTo NoCode (tokenChecks l t table q (codePlace l q)) ≡ true
     → k < slots l → (state (rec l k) ≡ stateNumber Consented) ⊎ (state (rec l k) ≡ stateNumber Redeemed)
     → value (rec l k) ≡ q .code → client (rec l k) ≢ q .client → answers (l, token t table q) ≡ 14
 unfolding tokenChecks comesTo
@@ -90,17 +90,17 @@ module _ (l : List ℕ) (a : ℕ) (table : List ℕ) (q : TokenRequest) (y : Typ
   used-after =
       token-leaves l a table q y (usedBy q)
       (λ f.
-      let r = tokenRecord a q (rec l (codeAt l q)) in
+      let r = tokenRecord a q (rec l (codePlace l q)) in
       let w = token-after l a table q y f in
       let found = first-in (isCode (q .code) (q .client)) l (f .there) in
-      let was = code-says (q .code) (q .client) (rec l (codeAt l q)) .0 (found .passes) in
+      let was = code-says (q .code) (q .client) (rec l (codePlace l q)) .0 (found .passes) in
       both-true (isCode (q .code) (q .client) r) (inState Redeemed r)
       (code-says (q .code) (q .client) r .1 (inr (w .state-is), (w .value-is ∙ was .1 .0, w .client-is ∙ was .1 .1)))
       (eq-eqb (state r) 3 (w .state-is)))
 
 second-use : (l : List ℕ) (a : ℕ) (table : List ℕ) (q : TokenRequest) → TypedToken a table q → answers (l, token a table q) ≡ done
     → (t : ℕ) (again : List ℕ) (w : TokenRequest) → w .code ≡ q .code → w .client ≡ q .client
-    → comesTo CodeRedeemed (tokenChecks (step l (token a table q) .after) t again w (codeAt (step l (token a table q) .after) w)) ≡ true
+    → comesTo CodeRedeemed (tokenChecks (step l (token a table q) .after) t again w (codePlace (step l (token a table q) .after) w)) ≡ true
     → answers (step l (token a table q) .after, token t again w) ≡ 15
 unfolding tokenChecks comesTo
 second-use l a table q y ok t again w c d e =

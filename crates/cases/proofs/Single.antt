@@ -22,7 +22,7 @@ use Rattle.desk.specs.Answers.{numberOf, done}
 use Rattle.desk.specs.Checks.{within, scopeFits}
 use Rattle.desk.specs.Requests.{DecideRequest}
 use Rattle.desk.specs.Push.{pushChecks}
-use Rattle.desk.specs.Decide.{referenceAt, decideChecks}
+use Rattle.desk.specs.Decide.{referencePlace, decideChecks}
 use Rattle.desk.specs.Token.{tokenChecks}
 use Rattle.desk.specs.declared.answer.Refusal.the-variants.{LedgerUnsound, IllFormed, ScopeRefused, FreshTaken, NoReference}
 use Rattle.history.specs.Runs.{Call, push, decide, token}
@@ -89,7 +89,7 @@ reference-taken : (l : List ℕ) (d : DecideRequest) → sound l ≡ true → so
 unfolding taken
 reference-taken l d s e =
     let a = first-in (isReference (d .reference) (d .client)) l e in
-    let k = referenceAt l d in
+    let k = referencePlace l d in
     let h = reference-holds _ (rec l k) (of-sound l s .within .each k (a .inside)) (d .reference) (d .client) (a .passes) in
     by (zeros (d .reference)) (some-in (holds (d .reference)) l k (a .inside) h)
   where

@@ -23,7 +23,7 @@ use Rattle.upkeep.proofs.Heads.{clock-next}
 use Rattle.upkeep.proofs.Kept.{sound-start}
 use Rattle.desk.specs.Answers.{numberOf, done}
 use Rattle.desk.specs.Outcome.{left}
-use Rattle.desk.specs.Start.{fresh, start}
+use Rattle.desk.specs.Start.{emptyLedger, start}
 use Rattle.desk.specs.Sweep.{sweepChecks}
 use Rattle.desk.specs.declared.answer.Refusal.the-variants.{LedgerUnsound, TimeWrong}
 use Rattle.history.specs.Runs.{sweep, step, numberIn, started}
@@ -44,21 +44,21 @@ pub start-number : (l : List ℕ) (n : ℕ) (b : Bool) → length l ≡ n → fi
 unfolding start
 start-number l n b e f = rw (sized-fits l n e ∙ f) (by b)
   where
-    by : (b : Bool) → (cond b (left done (fresh (length l))) (left (numberOf LedgerUnsound) l)) .answer ≡ numberIf LedgerUnsound (not b)
+    by : (b : Bool) → (cond b (left done (emptyLedger (length l))) (left (numberOf LedgerUnsound) l)) .answer ≡ numberIf LedgerUnsound (not b)
     by true = refl
     by false = refl
 
-start-ledger : (l : List ℕ) (n : ℕ) → length l ≡ n → fits n ≡ true → start l .ledger ≡ fresh n
+start-ledger : (l : List ℕ) (n : ℕ) → length l ≡ n → fits n ≡ true → start l .ledger ≡ emptyLedger n
 unfolding start
-start-ledger l n e f = rw (sized-fits l n e ∙ f) (ap fresh e)
+start-ledger l n e f = rw (sized-fits l n e ∙ f) (ap emptyLedger e)
 
 one-leads : (j : ℕ) → j < 7 → getD (digits 8 1) j 0 ≡ 0
 unfolding digits zeros
 one-leads j h = sym (getD-take 7 (digits 8 1) j 0 h) ∙ zeros-at (take 7 (digits 8 1)) refl j
 
 -- the bytes that start writes: byte 15 is the last of the next number, 1
-fresh-bytes : (n i : ℕ) → 16 ≤ n → i < n → i ≢ 15 → getD (fresh n) i 0 ≡ 0
-unfolding fresh
+fresh-bytes : (n i : ℕ) → 16 ≤ n → i < n → i ≢ 15 → getD (emptyLedger n) i 0 ≡ 0
+unfolding emptyLedger
 fresh-bytes n i h k d = go (decLt i 8) (decLt i 16)
   where
     inside : i < length (blank n)
@@ -80,7 +80,7 @@ pub start-other : (l : List ℕ) (n i : ℕ) → length l ≡ n → fits n ≡ t
 start-other l n i e f h k d = ap (λ (m : List ℕ). getD m i 0) (start-ledger l n e f) ∙ fresh-bytes n i h k d
 
 pub start-fifteen : (l : List ℕ) (n : ℕ) → length l ≡ n → fits n ≡ true → 16 ≤ n → getD (start l .ledger) 15 0 ≡ 1
-unfolding fresh digits
+unfolding emptyLedger digits
 start-fifteen l n e f h =
     ap (λ (m : List ℕ). getD m 15 0) (start-ledger l n e f)
     ∙ put-in (blank n) 8 (digits 8 1) 15 (rw (length-blank n) (omega arith)) (omega arith) (omega arith)
@@ -88,7 +88,7 @@ start-fifteen l n e f h =
 -- ---- the sweep of a fresh ledger
 
 fresh-clock : (n : ℕ) → clock (started n) ≡ 0
-unfolding fresh
+unfolding emptyLedger
 fresh-clock n =
     let o = blank (headSize + n * recordSize) in
     clock-next 1 o ∙ num-zeros (part o 0 8) (zeros-part o 0 8 (zeros-blank (headSize + n * recordSize)))
@@ -98,7 +98,7 @@ unfolding untimely
 fresh-untimely n t = ap (λ (c : ℕ). ltb t c || leb clockLimit t) (fresh-clock n) ∙ ap (λ (b : Bool). b || leb clockLimit t) (le-ltb t 0 (omega arith))
 
 fresh-sound : (n : ℕ) → recordsLeast ≤ n → n ≤ recordsMost → sound (started n) ≡ true
-unfolding fresh
+unfolding emptyLedger
 fresh-sound n h k = sound-start n h k
 
 pub sweep-fresh : (n t : ℕ) (b : Bool) → recordsLeast ≤ n → n ≤ recordsMost → leb clockLimit t ≡ b → numberIn (step (started n) (sweep t) .answer) ≡ numberIf TimeWrong b

@@ -23,12 +23,12 @@ use Rattle.desk.specs.Outcome.{Outcome}
 use Rattle.desk.specs.declared.answer.Answer.{Answer}
 use Rattle.desk.specs.declared.answer.Decided.{Decided}
 use Rattle.desk.specs.Push.{pushRecord, pushAt}
-use Rattle.desk.specs.Decide.{referenceAt, consentRecord, consentAt, decideChecks}
-use Rattle.desk.specs.Token.{codeAt, tokenRecord, tokenAt, tokenChecks}
+use Rattle.desk.specs.Decide.{referencePlace, consentRecord, consentAt, decideChecks}
+use Rattle.desk.specs.Token.{codePlace, tokenRecord, tokenAt, tokenChecks}
 use Rattle.desk.specs.Resource.{resourceChecks}
 use Rattle.desk.specs.declared.answer.Refusal.the-variants.{LedgerUnsound, RecordExpired}
 use Rattle.desk.proofs.Written.{decide-yes}
-use Rattle.conduct.proofs.Turns.{number-refused}
+use Rattle.desk.proofs.Turns.{number-refused}
 use Rattle.conduct.proofs.Rows.{push-cases, decide-cases, token-cases}
 use Rattle.conduct.proofs.Facts.{push-facts, decide-facts, TokenFacts, token-facts}
 use Rattle.conduct.proofs.Readings.{place-named}
@@ -95,7 +95,7 @@ module _ (l : List ℕ) (t : ℕ) (d : DecideRequest) (out : List ℕ) (y : Type
       (λ why u e. absurd (number-refused why e))
       (λ ok e.
       let f = decide-facts l t d out ok in
-      let k = referenceAt l d in
+      let k = referencePlace l d in
       let r = consentRecord t (d .holder) (d .fresh) (rec l k) in
       let found = decide-found l t d out y f in
       let a = consent-after l t d out y f in
@@ -105,7 +105,7 @@ module _ (l : List ℕ) (t : ℕ) (d : DecideRequest) (out : List ℕ) (y : Type
 
 module _ (l : List ℕ) (t : ℕ) (table : List ℕ) (q : TokenRequest) (y : TypedToken t table q) where
   abbrev redeemed : List ℕ
-  redeemed = tokenRecord t q (rec l (codeAt l q))
+  redeemed = tokenRecord t q (rec l (codePlace l q))
 
   -- whatever the record passes
   pub token-leaves : (test : List ℕ → Bool) → (TokenFacts l t table q → test redeemed ≡ true) → numberIn (step l (token t table q) .answer) ≡ done
@@ -117,7 +117,7 @@ module _ (l : List ℕ) (t : ℕ) (table : List ℕ) (q : TokenRequest) (y : Typ
       (λ ok e.
       let f = token-facts l t table q ok in
       let a = token-after l t table q y f in
-      written-stands l t (codeAt l q) redeemed test (t + tokenLifetime) (token-found l t table q y f .inside) (a .long) (g f)
+      written-stands l t (codePlace l q) redeemed test (t + tokenLifetime) (token-found l t table q y f .inside) (a .long) (g f)
       (a .expiry-is))
 
   token-stands : numberIn (step l (token t table q) .answer) ≡ done

@@ -13,9 +13,9 @@ use Rattle.clients.specs.Fields.{permitted}
 use Rattle.desk.specs.Answers.{numberOf, done}
 use Rattle.desk.specs.Requests.{PushRequest, DecideRequest, TokenRequest, ResourceRequest}
 use Rattle.desk.specs.Start.{start}
-use Rattle.desk.specs.Push.{asker, pushChecks}
-use Rattle.desk.specs.Decide.{referenceAt, decideChecks}
-use Rattle.desk.specs.Token.{codeAt, tokenChecks}
+use Rattle.desk.specs.Push.{clientRecord, pushChecks}
+use Rattle.desk.specs.Decide.{referencePlace, decideChecks}
+use Rattle.desk.specs.Token.{codePlace, tokenChecks}
 use Rattle.desk.specs.Resource.{tokenPlace, resourceChecks}
 use Rattle.desk.specs.declared.answer.Refusal.the-variants.{IllFormed, ScopeRefused, FreshTaken, RecordExpired}
 use Rattle.history.specs.Runs.{Call, push, decide, token, resource, sweep, Bytes, TypedPush, TypedDecide, TypedToken, step, numberIn, started}
@@ -61,7 +61,7 @@ pub record DecideAfter (a b : ℕ) (l : List ℕ) (c : Call) : Type 0 where
   pub is : c ≡ decide b request output
   pub same-reference : request .reference ≡ asked .fresh
   pub same-client : request .client ≡ asked .client
-  pub in-order : elseInOrder RecordExpired (decideChecks l b request output (referenceAt l request)) ≡ true
+  pub in-order : elseInOrder RecordExpired (decideChecks l b request output (referencePlace l request)) ≡ true
 
 -- c redeems at time b what was consented at time a
 pub record TokenAfter (a b : ℕ) (l : List ℕ) (c : Call) : Type 0 where
@@ -77,7 +77,7 @@ pub record TokenAfter (a b : ℕ) (l : List ℕ) (c : Call) : Type 0 where
   pub is : c ≡ token b table request
   pub same-code : request .code ≡ allowed .fresh
   pub same-client : request .client ≡ allowed .client
-  pub in-order : elseInOrder RecordExpired (tokenChecks l b table request (codeAt l request)) ≡ true
+  pub in-order : elseInOrder RecordExpired (tokenChecks l b table request (codePlace l request)) ≡ true
 
 -- c reads at time b with a token issued at time a
 pub record ResourceAfter (a b : ℕ) (l : List ℕ) (c : Call) : Type 0 where
@@ -98,7 +98,7 @@ pub record PushScope (given bits : ℕ) (l : List ℕ) (c : Call) : Type 0 where
   pub table : List ℕ
   pub request : PushRequest
   pub is : c ≡ push time table request
-  pub permitted-are : permitted (asker table request) ≡ given
+  pub permitted-are : permitted (clientRecord table request) ≡ given
   pub asked-are : request .scope ≡ bits
   pub in-order : elseInOrder ScopeRefused (pushChecks l time table request) ≡ true
 
@@ -117,7 +117,7 @@ pub record TokenVerifier (n : ℕ) (l : List ℕ) (c : Call) : Type 0 where
   pub request : TokenRequest
   pub is : c ≡ token time table request
   pub long : length (request .verifier) ≡ n
-  pub in-order : elseInOrder IllFormed (tokenChecks l time table request (codeAt l request)) ≡ true
+  pub in-order : elseInOrder IllFormed (tokenChecks l time table request (codePlace l request)) ≡ true
 
 -- c pushes with this redirect; the challenge, which check 5 looks at too, is well formed
 pub record PushRedirect (target : List ℕ) (l : List ℕ) (c : Call) : Type 0 where
@@ -137,7 +137,7 @@ pub record DecideFresh (l : List ℕ) (c : Call) : Type 0 where
   pub is : c ≡ decide time request output
   pub yes : request .yes ≡ true
   pub fresh-is : request .fresh ≡ request .reference
-  pub in-order : elseInOrder FreshTaken (decideChecks l time request output (referenceAt l request)) ≡ true
+  pub in-order : elseInOrder FreshTaken (decideChecks l time request output (referencePlace l request)) ≡ true
 
 -- ---- a case: its inputs, which of them are in order, and the number that comes out
 

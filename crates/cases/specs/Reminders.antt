@@ -9,7 +9,7 @@ use Rattle.ledger.specs.declared.state.State.the-variants.{Consented, Redeemed}
 use Rattle.desk.specs.Answers.{done}
 use Rattle.desk.specs.Checks.{Check}
 use Rattle.desk.specs.Requests.{TokenRequest, ResourceRequest}
-use Rattle.desk.specs.Token.{codeAt, tokenChecks}
+use Rattle.desk.specs.Token.{codePlace, tokenChecks}
 use Rattle.desk.specs.Resource.{tokenPlace, resourceChecks}
 use Rattle.desk.specs.declared.answer.Refusal.{Refusal}
 use Rattle.desk.specs.declared.answer.Refusal.the-variants.{NoCode, CodeRedeemed, KeyDiffers}
@@ -25,14 +25,14 @@ comesTo why (c ∷ cs) = cond (gives why c) true (passes c && comesTo why cs)
 pub record Reminders : Type 0 where
   -- "Finding the code by value alone: another client's code must give 14, redeemed or not."
   pub other-client : (l : List ℕ) (t : ℕ) (table : List ℕ) (q : TokenRequest) (k : ℕ)
-      → comesTo NoCode (tokenChecks l t table q (codeAt l q)) ≡ true
+      → comesTo NoCode (tokenChecks l t table q (codePlace l q)) ≡ true
       → k < slots l → (state (rec l k) ≡ stateNumber Consented) ⊎ (state (rec l k) ≡ stateNumber Redeemed)
       → value (rec l k) ≡ q .code → client (rec l k) ≢ q .client
       → answers (l, token t table q) ≡ 14
   -- "Freeing the record at redemption: the second use would give 14 and the token would have no record.": it gives 15, at any time
   pub second-use : (l : List ℕ) (a : ℕ) (table : List ℕ) (q : TokenRequest) → TypedToken a table q → answers (l, token a table q) ≡ done
       → (t : ℕ) (again : List ℕ) (w : TokenRequest) → w .code ≡ q .code → w .client ≡ q .client
-      → comesTo CodeRedeemed (tokenChecks (step l (token a table q) .after) t again w (codeAt (step l (token a table q) .after) w)) ≡ true
+      → comesTo CodeRedeemed (tokenChecks (step l (token a table q) .after) t again w (codePlace (step l (token a table q) .after) w)) ≡ true
       → answers (step l (token a table q) .after, token t again w) ≡ 15
   -- "Checking the key against the registered one at resource: it is the bound key that counts."
   pub bound-key : (l : List ℕ) (t : ℕ) (q : ResourceRequest) → comesTo KeyDiffers (resourceChecks l t q (tokenPlace l q)) ≡ true

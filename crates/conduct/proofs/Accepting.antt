@@ -29,8 +29,8 @@ use Rattle.desk.specs.Answers.{done}
 use Rattle.desk.specs.Checks.{scopeFits}
 use Rattle.desk.specs.Requests.{PushRequest, DecideRequest, TokenRequest, ResourceRequest}
 use Rattle.desk.specs.Push.{push}
-use Rattle.desk.specs.Decide.{referenceAt, decide}
-use Rattle.desk.specs.Token.{codeAt, token}
+use Rattle.desk.specs.Decide.{referencePlace, decide}
+use Rattle.desk.specs.Token.{codePlace, token}
 use Rattle.desk.specs.Resource.{tokenPlace, resource}
 use Rattle.desk.specs.Sweep.{sweep}
 use Rattle.desk.specs.Start.{start}
@@ -104,9 +104,9 @@ module _ (l : List ℕ) (t : ℕ) (d : DecideRequest) (out : List ℕ) where
         ledger-sound = ledger-says l .0 (f .ledger-sound);
         in-time = time-says l t .0 (f .in-time);
         output-room = ltb-false (length out) outputLeast (f .output-long);
-        k = referenceAt l d;
-        waits = reference-stands l (d .reference) (d .client) (referenceAt l d) (r .inside) .0 (r .passes);
-        alive = alive-says t (rec l (referenceAt l d)) .0 (f .alive);
+        k = referencePlace l d;
+        waits = reference-stands l (d .reference) (d .client) (referencePlace l d) (r .inside) .0 (r .passes);
+        alive = alive-says t (rec l (referencePlace l d)) .0 (f .alive);
         holder-given = eqb-false (d .holder) 0 (f .holder-set);
         fresh-new = yes-new (d .yes) .0 (f .new);
       }
@@ -145,10 +145,10 @@ module _ (l : List ℕ) (t : ℕ) (table : List ℕ) (q : TokenRequest) where
         known = known-is table (q .client) (q .key) (f .known);
         key-presented = nonzero-says (q .presented) .0 (f .key-set);
         verifier-well = verifier-says (q .verifier) .0 (f .formed);
-        k = codeAt l q;
-        waits = code-stands l (q .code) (q .client) (codeAt l q) (r .inside) .0 (r .passes, f .unredeemed);
-        alive = alive-says t (rec l (codeAt l q)) .0 (f .alive);
-        verified = match-says (q .verifier) (challenge (rec l (codeAt l q))) .0 (f .verified);
+        k = codePlace l q;
+        waits = code-stands l (q .code) (q .client) (codePlace l q) (r .inside) .0 (r .passes, f .unredeemed);
+        alive = alive-says t (rec l (codePlace l q)) .0 (f .alive);
+        verified = match-says (q .verifier) (challenge (rec l (codePlace l q))) .0 (f .verified);
         fresh-new = fresh-says l (q .fresh) .0 (f .new);
       }
 

@@ -32,17 +32,17 @@ use Rattle.desk.specs.Answers.{done, numberOf}
 use Rattle.desk.specs.Requests.{PushRequest, DecideRequest, TokenRequest, ResourceRequest}
 use Rattle.desk.specs.Outcome.{Outcome, left}
 use Rattle.desk.specs.Push.{pushRecord, pushAt, push}
-use Rattle.desk.specs.Decide.{referenceAt, handedOut, consentRecord, consentAt, declineAt, decideAt, decide}
-use Rattle.desk.specs.Token.{codeAt, tokenRecord, tokenAt, token}
+use Rattle.desk.specs.Decide.{referencePlace, handedOut, consentRecord, consentAt, declineAt, decideAt, decide}
+use Rattle.desk.specs.Token.{codePlace, tokenRecord, tokenAt, token}
 use Rattle.desk.specs.Resource.{resource}
 use Rattle.desk.specs.Sweep.{sweep}
-use Rattle.desk.specs.Start.{start, fresh}
+use Rattle.desk.specs.Start.{start, emptyLedger}
 use Rattle.desk.specs.declared.answer.Refusal.the-variants.{LedgerUnsound}
 use Rattle.desk.proofs.Written.{timely-lt}
 use Rattle.desk.specs.declared.answer.Answer.{Answer}
 use Rattle.desk.specs.declared.answer.Decided.{Decided}
 use Rattle.desk.specs.declared.answer.Swept.{Swept}
-use Rattle.conduct.proofs.Turns.{number-refused}
+use Rattle.desk.proofs.Turns.{number-refused}
 use Rattle.conduct.proofs.Rows.{push-cases, decide-cases, token-cases, resource-cases, sweep-cases}
 use Rattle.conduct.proofs.Facts.{PushFacts, push-facts, DecideFacts, decide-facts, TokenFacts, token-facts, resource-facts, sweep-facts}
 
@@ -146,31 +146,31 @@ module _ (l : List ℕ) (t : ℕ) (table : List ℕ) (p : PushRequest) where
 -- ---- decide
 
 module _ (l : List ℕ) (t : ℕ) (d : DecideRequest) (out : List ℕ) where
-  decide-inside : DecideFacts l t d out → referenceAt l d < slots l
+  decide-inside : DecideFacts l t d out → referencePlace l d < slots l
   decide-inside f = first-in (isReference (d .reference) (d .client)) l (f .there) .inside
 
-  consent-long : DecideFacts l t d out → length (consentRecord t (d .holder) (d .fresh) (rec l (referenceAt l d))) ≡ 256
+  consent-long : DecideFacts l t d out → length (consentRecord t (d .holder) (d .fresh) (rec l (referencePlace l d))) ≡ 256
   unfolding consentRecord
-  consent-long f = length-consented _ _ _ (rec l (referenceAt l d)) ∙ rec-length l (referenceAt l d) (decide-inside f)
+  consent-long f = length-consented _ _ _ (rec l (referencePlace l d)) ∙ rec-length l (referencePlace l d) (decide-inside f)
 
   -- what holds after a yes and after a no
-  pub either-way : (P : Outcome Decided → Type 0) → P (consentAt l t (d .holder) (d .fresh) out (referenceAt l d)) → P (declineAt l t (d .holder) out (referenceAt l d))
-      → P (decideAt l t d out (referenceAt l d))
+  pub either-way : (P : Outcome Decided → Type 0) → P (consentAt l t (d .holder) (d .fresh) out (referencePlace l d)) → P (declineAt l t (d .holder) out (referencePlace l d))
+      → P (decideAt l t d out (referencePlace l d))
   unfolding decideAt
   either-way P a b =
-      elim (d .yes) as (λ (y : Bool). P (cond y (consentAt l t (d .holder) (d .fresh) out (referenceAt l d)) (declineAt l t (d .holder) out (referenceAt l d))))
+      elim (d .yes) as (λ (y : Bool). P (cond y (consentAt l t (d .holder) (d .fresh) out (referencePlace l d)) (declineAt l t (d .holder) out (referencePlace l d))))
       [ true ↦ a | false ↦ b ]
 
-  pub decide-alone : (decide l t d out) .answer .answer .number ≡ done → OneRewritten t l ((decide l t d out) .ledger) (referenceAt l d)
+  pub decide-alone : (decide l t d out) .answer .answer .number ≡ done → OneRewritten t l ((decide l t d out) .ledger) (referencePlace l d)
   unfolding consentAt declineAt
   decide-alone =
-      decide-cases l t d out (λ (o : Outcome Decided). o .answer .answer .number ≡ done → OneRewritten t l (o .ledger) (referenceAt l d))
+      decide-cases l t d out (λ (o : Outcome Decided). o .answer .answer .number ≡ done → OneRewritten t l (o .ledger) (referencePlace l d))
       (λ why u e. absurd (number-refused why e))
       (λ ok.
       let f = decide-facts l t d out ok in
-      either-way (λ (o : Outcome Decided). o .answer .answer .number ≡ done → OneRewritten t l (o .ledger) (referenceAt l d))
-      (λ e. rewritten t l (referenceAt l d) (consentRecord t (d .holder) (d .fresh) (rec l (referenceAt l d))) (decide-inside f) (consent-long f) (timely-lt l t (f .in-time)))
-      (λ e. rewritten t l (referenceAt l d) free (decide-inside f) length-free (timely-lt l t (f .in-time))))
+      either-way (λ (o : Outcome Decided). o .answer .answer .number ≡ done → OneRewritten t l (o .ledger) (referencePlace l d))
+      (λ e. rewritten t l (referencePlace l d) (consentRecord t (d .holder) (d .fresh) (rec l (referencePlace l d))) (decide-inside f) (consent-long f) (timely-lt l t (f .in-time)))
+      (λ e. rewritten t l (referencePlace l d) free (decide-inside f) length-free (timely-lt l t (f .in-time))))
 
   pub decide-next : nextNumber ((decide l t d out) .ledger) ≡ nextNumber l
   unfolding consentAt declineAt
@@ -179,24 +179,24 @@ module _ (l : List ℕ) (t : ℕ) (d : DecideRequest) (out : List ℕ) where
       (λ ok.
       let f = decide-facts l t d out ok in
       either-way (λ (o : Outcome Decided). nextNumber (o .ledger) ≡ nextNumber l)
-      (next-kept t l (referenceAt l d) (consentRecord t (d .holder) (d .fresh) (rec l (referenceAt l d))) (decide-inside f) (consent-long f))
-      (next-kept t l (referenceAt l d) free (decide-inside f) length-free))
+      (next-kept t l (referencePlace l d) (consentRecord t (d .holder) (d .fresh) (rec l (referencePlace l d))) (decide-inside f) (consent-long f))
+      (next-kept t l (referencePlace l d) free (decide-inside f) length-free))
 
   -- "the redirect goes into the first 64 output bytes, zero-padded; later bytes stay"
-  pub decide-output : (decide l t d out) .answer .answer .number ≡ done → part ((decide l t d out) .output) 0 outputLeast ≡ redirectField (rec l (referenceAt l d))
+  pub decide-output : (decide l t d out) .answer .answer .number ≡ done → part ((decide l t d out) .output) 0 outputLeast ≡ redirectField (rec l (referencePlace l d))
   unfolding consentAt declineAt
   decide-output =
       decide-cases l t d out
-      (λ (o : Outcome Decided). o .answer .answer .number ≡ done → part (o .output) 0 outputLeast ≡ redirectField (rec l (referenceAt l d)))
+      (λ (o : Outcome Decided). o .answer .answer .number ≡ done → part (o .output) 0 outputLeast ≡ redirectField (rec l (referencePlace l d)))
       (λ why u e. absurd (number-refused why e))
       (λ ok.
       let f = decide-facts l t d out ok in
       let n = ltb-false (length out) outputLeast (f .output-long) in
-      let r = rec l (referenceAt l d) in
-      let m = rec-length l (referenceAt l d) (decide-inside f) in
+      let r = rec l (referencePlace l d) in
+      let m = rec-length l (referencePlace l d) (decide-inside f) in
       let w : length (redirectField r) ≡ 64 = part-length r 192 64 (omega arith) in
       let s : part (handedOut r out) 0 outputLeast ≡ redirectField r = put-same out 0 64 (redirectField r) w (omega arith) in
-      either-way (λ (o : Outcome Decided). o .answer .answer .number ≡ done → part (o .output) 0 outputLeast ≡ redirectField (rec l (referenceAt l d))) (λ e. s) (λ e. s))
+      either-way (λ (o : Outcome Decided). o .answer .answer .number ≡ done → part (o .output) 0 outputLeast ≡ redirectField (rec l (referencePlace l d))) (λ e. s) (λ e. s))
 
   pub decide-later : drop outputLeast ((decide l t d out) .output) ≡ drop outputLeast out
   unfolding consentAt declineAt
@@ -204,8 +204,8 @@ module _ (l : List ℕ) (t : ℕ) (d : DecideRequest) (out : List ℕ) where
       decide-cases l t d out (λ (o : Outcome Decided). drop outputLeast (o .output) ≡ drop outputLeast out) (λ why u. refl)
       (λ ok.
       let f = decide-facts l t d out ok in
-      let r = rec l (referenceAt l d) in
-      let m = rec-length l (referenceAt l d) (decide-inside f) in
+      let r = rec l (referencePlace l d) in
+      let m = rec-length l (referencePlace l d) (decide-inside f) in
       let w : length (redirectField r) ≡ 64 = part-length r 192 64 (omega arith) in
       let s : drop outputLeast (handedOut r out) ≡ drop outputLeast out = drop-put out 0 (redirectField r) 64 (omega arith) in
       either-way (λ (o : Outcome Decided). drop outputLeast (o .output) ≡ drop outputLeast out) s s)
@@ -213,20 +213,20 @@ module _ (l : List ℕ) (t : ℕ) (d : DecideRequest) (out : List ℕ) where
 -- ---- token
 
 module _ (l : List ℕ) (t : ℕ) (table : List ℕ) (q : TokenRequest) where
-  token-inside : TokenFacts l t table q → codeAt l q < slots l
+  token-inside : TokenFacts l t table q → codePlace l q < slots l
   token-inside f = first-in (isCode (q .code) (q .client)) l (f .there) .inside
 
-  token-long : TokenFacts l t table q → length (tokenRecord t q (rec l (codeAt l q))) ≡ 256
+  token-long : TokenFacts l t table q → length (tokenRecord t q (rec l (codePlace l q))) ≡ 256
   unfolding tokenRecord
-  token-long f = length-redeemed _ _ _ (rec l (codeAt l q)) ∙ rec-length l (codeAt l q) (token-inside f)
+  token-long f = length-redeemed _ _ _ (rec l (codePlace l q)) ∙ rec-length l (codePlace l q) (token-inside f)
 
-  pub token-alone : (token l t table q) .answer .number ≡ done → OneRewritten t l ((token l t table q) .ledger) (codeAt l q)
+  pub token-alone : (token l t table q) .answer .number ≡ done → OneRewritten t l ((token l t table q) .ledger) (codePlace l q)
   unfolding tokenAt
   token-alone =
-      token-cases l t table q (λ (o : Outcome Answer). o .answer .number ≡ done → OneRewritten t l (o .ledger) (codeAt l q)) (λ why u e. absurd (number-refused why e))
+      token-cases l t table q (λ (o : Outcome Answer). o .answer .number ≡ done → OneRewritten t l (o .ledger) (codePlace l q)) (λ why u e. absurd (number-refused why e))
       (λ ok e.
       let f = token-facts l t table q ok in
-      rewritten t l (codeAt l q) (tokenRecord t q (rec l (codeAt l q))) (token-inside f) (token-long f) (timely-lt l t (f .in-time)))
+      rewritten t l (codePlace l q) (tokenRecord t q (rec l (codePlace l q))) (token-inside f) (token-long f) (timely-lt l t (f .in-time)))
 
   pub token-next : nextNumber ((token l t table q) .ledger) ≡ nextNumber l
   unfolding tokenAt
@@ -234,7 +234,7 @@ module _ (l : List ℕ) (t : ℕ) (table : List ℕ) (q : TokenRequest) where
       token-cases l t table q (λ (o : Outcome Answer). nextNumber (o .ledger) ≡ nextNumber l) (λ why u. refl)
       (λ ok.
       let f = token-facts l t table q ok in
-      next-kept t l (codeAt l q) (tokenRecord t q (rec l (codeAt l q))) (token-inside f) (token-long f))
+      next-kept t l (codePlace l q) (tokenRecord t q (rec l (codePlace l q))) (token-inside f) (token-long f))
 
 -- ---- resource: "Only the clock changes."
 
@@ -313,12 +313,12 @@ module _ (l : List ℕ) (t : ℕ) where
 
 -- ---- start, where the length is right
 
-pub start-writes : (l : List ℕ) → (start l) .answer ≡ done → (sized l ≡ true) × ((start l) .ledger ≡ fresh (length l))
+pub start-writes : (l : List ℕ) → (start l) .answer ≡ done → (sized l ≡ true) × ((start l) .ledger ≡ emptyLedger (length l))
 unfolding start
 start-writes l = by (sized l)
   where
-    by : (b : Bool) → (cond b (left done (fresh (length l))) (left (numberOf LedgerUnsound) l)) .answer ≡ done
-        → (b ≡ true) × ((cond b (left done (fresh (length l))) (left (numberOf LedgerUnsound) l)) .ledger ≡ fresh (length l))
+    by : (b : Bool) → (cond b (left done (emptyLedger (length l))) (left (numberOf LedgerUnsound) l)) .answer ≡ done
+        → (b ≡ true) × ((cond b (left done (emptyLedger (length l))) (left (numberOf LedgerUnsound) l)) .ledger ≡ emptyLedger (length l))
     by true e = (refl, refl)
     by false e = absurd (number-refused LedgerUnsound e)
 
@@ -354,7 +354,7 @@ pub start-unchanged : (l : List ℕ) → (start l) .answer ≢ done → (start l
 unfolding start
 start-unchanged l = by (sized l)
   where
-    by : (b : Bool) → (cond b (left done (fresh (length l))) (left (numberOf LedgerUnsound) l)) .answer ≢ done
-        → (cond b (left done (fresh (length l))) (left (numberOf LedgerUnsound) l)) .ledger ≡ l
+    by : (b : Bool) → (cond b (left done (emptyLedger (length l))) (left (numberOf LedgerUnsound) l)) .answer ≢ done
+        → (cond b (left done (emptyLedger (length l))) (left (numberOf LedgerUnsound) l)) .ledger ≡ l
     by true n = absurd (n refl)
     by false n = refl

@@ -21,12 +21,12 @@ use Rattle.clients.specs.Sound.{sound as tableSound}
 use Rattle.desk.specs.Limits.{outputLeast}
 use Rattle.desk.specs.Checks.{scopeFits}
 use Rattle.desk.specs.Requests.{PushRequest, DecideRequest, TokenRequest, ResourceRequest}
-use Rattle.desk.specs.Push.{asker, pushChecks}
-use Rattle.desk.specs.Decide.{referenceAt, decideChecks}
-use Rattle.desk.specs.Token.{codeAt, tokenChecks}
+use Rattle.desk.specs.Push.{clientRecord, pushChecks}
+use Rattle.desk.specs.Decide.{referencePlace, decideChecks}
+use Rattle.desk.specs.Token.{codePlace, tokenChecks}
 use Rattle.desk.specs.Resource.{tokenPlace, resourceChecks}
 use Rattle.desk.specs.Sweep.{sweepChecks}
-use Rattle.conduct.proofs.Turns.{Passed}
+use Rattle.desk.proofs.Turns.{Passed}
 
 -- ---- push
 
@@ -36,7 +36,7 @@ pub record PushFacts (l : List ℕ) (t : ℕ) (table : List ℕ) (p : PushReques
   pub table-sound : tableSound table ≡ true
   pub known : isKnown table (p .client) (p .key) ≡ true
   pub formed : (redirectFormed (p .redirect) && challengeFormed (p .challenge)) ≡ true
-  pub fits : scopeFits (p .scope) (permitted (asker table p)) ≡ true
+  pub fits : scopeFits (p .scope) (permitted (clientRecord table p)) ≡ true
   pub new : taken l (p .fresh) ≡ false
   pub room : some isFree (records l) ≡ true
   pub numbers-left : eqb (nextNumber l) lastNumber ≡ false
@@ -52,7 +52,7 @@ module _ (l : List ℕ) (t : ℕ) (table : List ℕ) (p : PushRequest) where
         table-sound = not-false (tableSound table) c;
         known = not-false (isKnown table (p .client) (p .key)) d;
         formed = not-false (redirectFormed (p .redirect) && challengeFormed (p .challenge)) e;
-        fits = not-false (scopeFits (p .scope) (permitted (asker table p))) f;
+        fits = not-false (scopeFits (p .scope) (permitted (clientRecord table p))) f;
         new = g;
         room = not-false (some isFree (records l)) h;
         numbers-left = i;
@@ -78,12 +78,12 @@ pub record DecideFacts (l : List ℕ) (t : ℕ) (d : DecideRequest) (out : List 
   pub in-time : untimely l t ≡ false
   pub output-long : ltb (length out) outputLeast ≡ false
   pub there : some (isReference (d .reference) (d .client)) (records l) ≡ true
-  pub alive : expired t (rec l (referenceAt l d)) ≡ false
+  pub alive : expired t (rec l (referencePlace l d)) ≡ false
   pub holder-set : eqb (d .holder) 0 ≡ false
   pub new : (d .yes && taken l (d .fresh)) ≡ false
 
 module _ (l : List ℕ) (t : ℕ) (d : DecideRequest) (out : List ℕ) where
-  pub decide-facts : Passed (decideChecks l t d out (referenceAt l d)) → DecideFacts l t d out
+  pub decide-facts : Passed (decideChecks l t d out (referencePlace l d)) → DecideFacts l t d out
   unfolding decideChecks
   decide-facts ok =
       let (a, (b, (c, (e, (f, (g, (h, _))))))) = ok in
@@ -97,7 +97,7 @@ module _ (l : List ℕ) (t : ℕ) (d : DecideRequest) (out : List ℕ) where
         new = h;
       }
 
-  pub facts-decide : DecideFacts l t d out → Passed (decideChecks l t d out (referenceAt l d))
+  pub facts-decide : DecideFacts l t d out → Passed (decideChecks l t d out (referencePlace l d))
   unfolding decideChecks
   facts-decide f = (
     ap not (f .ledger-sound),
@@ -114,13 +114,13 @@ pub record TokenFacts (l : List ℕ) (t : ℕ) (table : List ℕ) (q : TokenRequ
   pub key-set : zeros (q .presented) ≡ false
   pub formed : verifierFormed (q .verifier) ≡ true
   pub there : some (isCode (q .code) (q .client)) (records l) ≡ true
-  pub unredeemed : inState Redeemed (rec l (codeAt l q)) ≡ false
-  pub alive : expired t (rec l (codeAt l q)) ≡ false
-  pub verified : matches (q .verifier) (challenge (rec l (codeAt l q))) ≡ true
+  pub unredeemed : inState Redeemed (rec l (codePlace l q)) ≡ false
+  pub alive : expired t (rec l (codePlace l q)) ≡ false
+  pub verified : matches (q .verifier) (challenge (rec l (codePlace l q))) ≡ true
   pub new : taken l (q .fresh) ≡ false
 
 module _ (l : List ℕ) (t : ℕ) (table : List ℕ) (q : TokenRequest) where
-  pub token-facts : Passed (tokenChecks l t table q (codeAt l q)) → TokenFacts l t table q
+  pub token-facts : Passed (tokenChecks l t table q (codePlace l q)) → TokenFacts l t table q
   unfolding tokenChecks
   token-facts ok =
       let (a, (b, (c, (d, (e, (f, (g, (h, (i, (j, (k, _))))))))))) = ok in
@@ -134,11 +134,11 @@ module _ (l : List ℕ) (t : ℕ) (table : List ℕ) (q : TokenRequest) where
         there = not-false (some (isCode (q .code) (q .client)) (records l)) g;
         unredeemed = h;
         alive = i;
-        verified = not-false (matches (q .verifier) (challenge (rec l (codeAt l q)))) j;
+        verified = not-false (matches (q .verifier) (challenge (rec l (codePlace l q)))) j;
         new = k;
       }
 
-  pub facts-token : TokenFacts l t table q → Passed (tokenChecks l t table q (codeAt l q))
+  pub facts-token : TokenFacts l t table q → Passed (tokenChecks l t table q (codePlace l q))
   unfolding tokenChecks
   facts-token f = (
     ap not (f .ledger-sound),

@@ -30,17 +30,17 @@ use Rattle.desk.specs.Answers.{done, numberOf}
 use Rattle.desk.specs.Requests.{PushRequest, DecideRequest, TokenRequest, ResourceRequest}
 use Rattle.desk.specs.Outcome.{Outcome, left}
 use Rattle.desk.specs.Push.{pushRecord, pushAt, push}
-use Rattle.desk.specs.Decide.{referenceAt, consentRecord, consentAt, declineAt, decideAt, decide}
-use Rattle.desk.specs.Token.{codeAt, tokenRecord, tokenAt, token}
+use Rattle.desk.specs.Decide.{referencePlace, consentRecord, consentAt, declineAt, decideAt, decide}
+use Rattle.desk.specs.Token.{codePlace, tokenRecord, tokenAt, token}
 use Rattle.desk.specs.Resource.{resource}
 use Rattle.desk.specs.Sweep.{sweep}
-use Rattle.desk.specs.Start.{start, fresh}
+use Rattle.desk.specs.Start.{start, emptyLedger}
 use Rattle.desk.specs.declared.answer.Refusal.the-variants.{LedgerUnsound}
 use Rattle.desk.proofs.Written.{timely-lt}
 use Rattle.desk.specs.declared.answer.Answer.{Answer}
 use Rattle.desk.specs.declared.answer.Decided.{Decided}
 use Rattle.desk.specs.declared.answer.Swept.{Swept}
-use Rattle.conduct.proofs.Turns.{number-refused}
+use Rattle.desk.proofs.Turns.{number-refused}
 use Rattle.conduct.proofs.Rows.{push-cases, decide-cases, token-cases, resource-cases, sweep-cases}
 use Rattle.conduct.proofs.Facts.{push-facts, DecideFacts, decide-facts, token-facts, resource-facts, sweep-facts}
 use Rattle.conduct.proofs.Alone.{either-way}
@@ -111,11 +111,11 @@ module _ (l : List ℕ) (t : ℕ) (table : List ℕ) (p : PushRequest) where
 module _ (l : List ℕ) (t : ℕ) (d : DecideRequest) (out : List ℕ) where
   -- the fresh value is looked at on yes alone
   consent-sound : d .yes ≡ true → sound l ≡ true → DecideTyped d → DecideFacts l t d out
-      → sound ((consentAt l t (d .holder) (d .fresh) out (referenceAt l d)) .ledger) ≡ true
+      → sound ((consentAt l t (d .holder) (d .fresh) out (referencePlace l d)) .ledger) ≡ true
   unfolding consentAt consentRecord
   consent-sound says s y f =
       let a = first-in (isReference (d .reference) (d .client)) l (f .there) in
-      let k = referenceAt l d in
+      let k = referencePlace l d in
       let h = timely-lt l t (f .in-time) in
       sound-clock t _
       (sound-consented l k (t + codeLifetime) (d .holder) (d .fresh) s (a .inside) (reference-says (d .reference) (d .client) (rec l k) .0 (a .passes) .0)
@@ -125,11 +125,11 @@ module _ (l : List ℕ) (t : ℕ) (d : DecideRequest) (out : List ℕ) where
       new : (b : Bool) → b ≡ true → (b && taken l (d .fresh)) ≡ false → taken l (d .fresh) ≡ false
       new b e n = rw e at n
 
-  decline-sound : sound l ≡ true → DecideFacts l t d out → sound ((declineAt l t (d .holder) out (referenceAt l d)) .ledger) ≡ true
+  decline-sound : sound l ≡ true → DecideFacts l t d out → sound ((declineAt l t (d .holder) out (referencePlace l d)) .ledger) ≡ true
   unfolding declineAt
   decline-sound s f =
       let a = first-in (isReference (d .reference) (d .client)) l (f .there) in
-      sound-clock t _ (sound-freed l (referenceAt l d) s (a .inside)) (timely-lt l t (f .in-time))
+      sound-clock t _ (sound-freed l (referencePlace l d) s (a .inside)) (timely-lt l t (f .in-time))
 
   pub decide-sound : sound l ≡ true → DecideTyped d → sound ((decide l t d out) .ledger) ≡ true
   unfolding decideAt
@@ -137,9 +137,9 @@ module _ (l : List ℕ) (t : ℕ) (d : DecideRequest) (out : List ℕ) where
       decide-cases l t d out (λ (o : Outcome Decided). sound (o .ledger) ≡ true) (λ why u. s)
       (λ ok. let f = decide-facts l t d out ok in by (d .yes) (λ e. consent-sound e s y f) (decline-sound s f))
     where
-      by : (b : Bool) → (b ≡ true → sound ((consentAt l t (d .holder) (d .fresh) out (referenceAt l d)) .ledger) ≡ true)
-          → sound ((declineAt l t (d .holder) out (referenceAt l d)) .ledger) ≡ true
-          → sound ((cond b (consentAt l t (d .holder) (d .fresh) out (referenceAt l d)) (declineAt l t (d .holder) out (referenceAt l d))) .ledger) ≡ true
+      by : (b : Bool) → (b ≡ true → sound ((consentAt l t (d .holder) (d .fresh) out (referencePlace l d)) .ledger) ≡ true)
+          → sound ((declineAt l t (d .holder) out (referencePlace l d)) .ledger) ≡ true
+          → sound ((cond b (consentAt l t (d .holder) (d .fresh) out (referencePlace l d)) (declineAt l t (d .holder) out (referencePlace l d))) .ledger) ≡ true
       by true c n = c refl
       by false c n = n
 
@@ -148,7 +148,7 @@ module _ (l : List ℕ) (t : ℕ) (d : DecideRequest) (out : List ℕ) where
   decide-octets o y =
       decide-cases l t d out (λ (o : Outcome Decided). Octets (o .ledger)) (λ why u. o)
       (λ ok.
-      let k = referenceAt l d in
+      let k = referencePlace l d in
       either-way l t d out (λ (o : Outcome Decided). Octets (o .ledger))
       (octets-clock t _ (octets-with l k (consentRecord t (d .holder) (d .fresh) (rec l k)) o (octets-consented (t + codeLifetime) (d .holder) (d .fresh) (rec l k) (y .fresh-bytes) (octets-rec l k o))))
       (octets-clock t _ (octets-with l k free o octets-free)))
@@ -163,7 +163,7 @@ module _ (l : List ℕ) (t : ℕ) (table : List ℕ) (q : TokenRequest) where
       (λ ok.
       let f = token-facts l t table q ok in
       let a = first-in (isCode (q .code) (q .client)) l (f .there) in
-      let k = codeAt l q in
+      let k = codePlace l q in
       let h = timely-lt l t (f .in-time) in
       sound-clock t _
       (sound-redeemed l k (t + tokenLifetime) (q .fresh) (q .presented) s (a .inside) (code-waits (q .code) (q .client) (rec l k) (a .passes) (f .unredeemed) .0)
@@ -175,7 +175,7 @@ module _ (l : List ℕ) (t : ℕ) (table : List ℕ) (q : TokenRequest) where
   token-octets o y =
       token-cases l t table q (λ (o : Outcome Answer). Octets (o .ledger)) (λ why u. o)
       (λ ok.
-      let k = codeAt l q in
+      let k = codePlace l q in
       octets-clock t _
       (octets-with l k (tokenRecord t q (rec l k)) o (octets-redeemed (t + tokenLifetime) (q .fresh) (q .presented) (rec l k) (y .fresh-bytes) (y .presented-bytes) (octets-rec l k o))))
 
@@ -205,19 +205,19 @@ module _ (l : List ℕ) (t : ℕ) where
 -- ---- start, over any buffer whose length is right
 
 pub start-sound : (l : List ℕ) → (start l) .answer ≡ done → sound ((start l) .ledger) ≡ true
-unfolding start fresh
+unfolding start emptyLedger
 start-sound l = by (sized l) refl
   where
-    by : (b : Bool) → sized l ≡ b → (cond b (left done (fresh (length l))) (left (numberOf LedgerUnsound) l)) .answer ≡ done
-        → sound ((cond b (left done (fresh (length l))) (left (numberOf LedgerUnsound) l)) .ledger) ≡ true
+    by : (b : Bool) → sized l ≡ b → (cond b (left done (emptyLedger (length l))) (left (numberOf LedgerUnsound) l)) .answer ≡ done
+        → sound ((cond b (left done (emptyLedger (length l))) (left (numberOf LedgerUnsound) l)) .ledger) ≡ true
     by true p e = sound-started l p
     by false p e = absurd (number-refused LedgerUnsound e)
 
 pub start-octets : (l : List ℕ) → (start l) .answer ≡ done → Octets ((start l) .ledger)
-unfolding start fresh
+unfolding start emptyLedger
 start-octets l = by (sized l)
   where
-    by : (b : Bool) → (cond b (left done (fresh (length l))) (left (numberOf LedgerUnsound) l)) .answer ≡ done
-        → Octets ((cond b (left done (fresh (length l))) (left (numberOf LedgerUnsound) l)) .ledger)
+    by : (b : Bool) → (cond b (left done (emptyLedger (length l))) (left (numberOf LedgerUnsound) l)) .answer ≡ done
+        → Octets ((cond b (left done (emptyLedger (length l))) (left (numberOf LedgerUnsound) l)) .ledger)
     by true e = octets-started (length l)
     by false e = absurd (number-refused LedgerUnsound e)

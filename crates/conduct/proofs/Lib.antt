@@ -1,5 +1,4 @@
 -- What the calls keep to.
-pub mod Turns
 pub mod Rows
 pub mod Readings
 pub mod Facts

@@ -13,7 +13,7 @@ use Rattle.octets.proofs.Tests.{both, both-true, false-of}
 use Rattle.octets.proofs.Bytes.{nonzero-says}
 use Rattle.octets.proofs.Parts.{same-eq, same-of}
 use Rattle.sha256.specs.Hash.{sha256}
-use Rattle.s256.specs.Base64url.{base64url}
+use Rattle.texts.specs.Base64url.{base64url}
 use Rattle.s256.specs.Rule.{matches}
 use Rattle.ledger.specs.Limits.{clockLimit}
 use Rattle.ledger.specs.Fields.{clock, rec, slots, records, state, stateNumber, inState, expiry, client, value}
@@ -27,7 +27,7 @@ use Rattle.clients.specs.Plain.{KnownAt}
 use Rattle.clients.specs.declared.known.Known.the-variants.{At}
 use Rattle.clients.proofs.Laws.{known-at, known-sound}
 use Rattle.desk.specs.Checks.{scopeFits, within}
-use Rattle.desk.proofs.Told.{known-told, known-place}
+use Rattle.desk.proofs.Tests.{known-told, known-place}
 use Rattle.conduct.specs.Conditions.{InTime, ScopeWithin, FreshValue, FirstFree, StandsAt, TokenAt}
 
 -- ---- what several calls ask

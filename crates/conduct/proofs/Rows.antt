@@ -17,17 +17,17 @@ use Rattle.desk.specs.Checks.{Check, _when_, Verdict, accepted, stopped, first}
 use Rattle.desk.specs.Requests.{PushRequest, DecideRequest, TokenRequest, ResourceRequest}
 use Rattle.desk.specs.Outcome.{Outcome, left, concludes}
 use Rattle.desk.specs.Push.{pushChecks, pushAt, pushLeaves, push}
-use Rattle.desk.specs.Decide.{decideLeaves, referenceAt, decideChecks, consentAt, declineAt, decideAt, decide}
-use Rattle.desk.specs.Token.{codeAt, tokenChecks, tokenAt, tokenLeaves, token}
+use Rattle.desk.specs.Decide.{decideLeaves, referencePlace, decideChecks, consentAt, declineAt, decideAt, decide}
+use Rattle.desk.specs.Token.{codePlace, tokenChecks, tokenAt, tokenLeaves, token}
 use Rattle.desk.specs.Resource.{tokenPlace, resourceChecks, readBy, look, resourceLeaves, resourceBy, resource}
 use Rattle.desk.specs.Sweep.{sweepChecks, sweepLeaves, sweep}
-use Rattle.desk.specs.Start.{start, fresh}
+use Rattle.desk.specs.Start.{start, emptyLedger}
 use Rattle.desk.specs.declared.answer.Answer.{Answer}
 use Rattle.desk.specs.declared.answer.Decided.{Decided}
 use Rattle.desk.specs.declared.answer.Swept.{Swept}
 use Rattle.desk.specs.declared.answer.Refusal.{Refusal}
 use Rattle.desk.specs.declared.answer.Refusal.the-variants.{LedgerUnsound}
-use Rattle.conduct.proofs.Turns.{Passed, Turn, by-turns, numberBy, number-stopped, number-refused, passes-exactly, turns-exactly}
+use Rattle.desk.proofs.Turns.{Passed, Turn, by-turns, numberBy, number-stopped, number-refused, passes-exactly, turns-exactly}
 
 -- ---- each call goes by its checks
 
@@ -55,51 +55,51 @@ module _ (l : List ℕ) (t : ℕ) (table : List ℕ) (p : PushRequest) where
 
 module _ (l : List ℕ) (t : ℕ) (d : DecideRequest) (out : List ℕ) where
   pub decide-cases : (P : Outcome Decided → Type 0)
-      → ((why : Refusal) → Turn why (decideChecks l t d out (referenceAt l d)) → P (decideLeaves l out why))
-      → (Passed (decideChecks l t d out (referenceAt l d)) → P (decideAt l t d out (referenceAt l d))) → P (decide l t d out)
+      → ((why : Refusal) → Turn why (decideChecks l t d out (referencePlace l d)) → P (decideLeaves l out why))
+      → (Passed (decideChecks l t d out (referencePlace l d)) → P (decideAt l t d out (referencePlace l d))) → P (decide l t d out)
   unfolding decide
   decide-cases P f g =
-      by-turns (decideChecks l t d out (referenceAt l d))
-      (λ (v : Verdict). P (concludes v (decideLeaves l out) (decideAt l t d out (referenceAt l d)))) f g
+      by-turns (decideChecks l t d out (referencePlace l d))
+      (λ (v : Verdict). P (concludes v (decideLeaves l out) (decideAt l t d out (referencePlace l d)))) f g
 
-  decide-number : (decide l t d out) .answer .answer .number ≡ numberBy (first (decideChecks l t d out (referenceAt l d)))
+  decide-number : (decide l t d out) .answer .answer .number ≡ numberBy (first (decideChecks l t d out (referencePlace l d)))
   unfolding decide decideAt consentAt declineAt
-  decide-number = by (first (decideChecks l t d out (referenceAt l d)))
+  decide-number = by (first (decideChecks l t d out (referencePlace l d)))
     where
-      at : (b : Bool) → (cond b (consentAt l t (d .holder) (d .fresh) out (referenceAt l d)) (declineAt l t (d .holder) out (referenceAt l d))) .answer .answer .number ≡ done
+      at : (b : Bool) → (cond b (consentAt l t (d .holder) (d .fresh) out (referencePlace l d)) (declineAt l t (d .holder) out (referencePlace l d))) .answer .answer .number ≡ done
       at true = refl
       at false = refl
 
-      by : (v : Verdict) → (concludes v (decideLeaves l out) (decideAt l t d out (referenceAt l d))) .answer .answer .number ≡ numberBy v
+      by : (v : Verdict) → (concludes v (decideLeaves l out) (decideAt l t d out (referencePlace l d))) .answer .answer .number ≡ numberBy v
       by accepted = at (d .yes)
       by (stopped why) = refl
 
-  pub decide-passed : ((decide l t d out) .answer .answer .number ≡ done) ↔ Passed (decideChecks l t d out (referenceAt l d))
-  decide-passed = passes-exactly _ (decideChecks l t d out (referenceAt l d)) decide-number
+  pub decide-passed : ((decide l t d out) .answer .answer .number ≡ done) ↔ Passed (decideChecks l t d out (referencePlace l d))
+  decide-passed = passes-exactly _ (decideChecks l t d out (referencePlace l d)) decide-number
 
-  pub decide-turn : (why : Refusal) → ((decide l t d out) .answer .answer .number ≡ numberOf why) ↔ Turn why (decideChecks l t d out (referenceAt l d))
-  decide-turn = turns-exactly _ (decideChecks l t d out (referenceAt l d)) decide-number
+  pub decide-turn : (why : Refusal) → ((decide l t d out) .answer .answer .number ≡ numberOf why) ↔ Turn why (decideChecks l t d out (referencePlace l d))
+  decide-turn = turns-exactly _ (decideChecks l t d out (referencePlace l d)) decide-number
 
 module _ (l : List ℕ) (t : ℕ) (table : List ℕ) (q : TokenRequest) where
-  pub token-cases : (P : Outcome Answer → Type 0) → ((why : Refusal) → Turn why (tokenChecks l t table q (codeAt l q)) → P (tokenLeaves l why))
-      → (Passed (tokenChecks l t table q (codeAt l q)) → P (tokenAt l t q (codeAt l q))) → P (token l t table q)
+  pub token-cases : (P : Outcome Answer → Type 0) → ((why : Refusal) → Turn why (tokenChecks l t table q (codePlace l q)) → P (tokenLeaves l why))
+      → (Passed (tokenChecks l t table q (codePlace l q)) → P (tokenAt l t q (codePlace l q))) → P (token l t table q)
   unfolding token
   token-cases P f g =
-      by-turns (tokenChecks l t table q (codeAt l q)) (λ (v : Verdict). P (concludes v (tokenLeaves l) (tokenAt l t q (codeAt l q)))) f g
+      by-turns (tokenChecks l t table q (codePlace l q)) (λ (v : Verdict). P (concludes v (tokenLeaves l) (tokenAt l t q (codePlace l q)))) f g
 
-  token-number : (token l t table q) .answer .number ≡ numberBy (first (tokenChecks l t table q (codeAt l q)))
+  token-number : (token l t table q) .answer .number ≡ numberBy (first (tokenChecks l t table q (codePlace l q)))
   unfolding token tokenAt
-  token-number = by (first (tokenChecks l t table q (codeAt l q)))
+  token-number = by (first (tokenChecks l t table q (codePlace l q)))
     where
-      by : (v : Verdict) → (concludes v (tokenLeaves l) (tokenAt l t q (codeAt l q))) .answer .number ≡ numberBy v
+      by : (v : Verdict) → (concludes v (tokenLeaves l) (tokenAt l t q (codePlace l q))) .answer .number ≡ numberBy v
       by accepted = refl
       by (stopped why) = refl
 
-  pub token-passed : ((token l t table q) .answer .number ≡ done) ↔ Passed (tokenChecks l t table q (codeAt l q))
-  token-passed = passes-exactly _ (tokenChecks l t table q (codeAt l q)) token-number
+  pub token-passed : ((token l t table q) .answer .number ≡ done) ↔ Passed (tokenChecks l t table q (codePlace l q))
+  token-passed = passes-exactly _ (tokenChecks l t table q (codePlace l q)) token-number
 
-  pub token-turn : (why : Refusal) → ((token l t table q) .answer .number ≡ numberOf why) ↔ Turn why (tokenChecks l t table q (codeAt l q))
-  token-turn = turns-exactly _ (tokenChecks l t table q (codeAt l q)) token-number
+  pub token-turn : (why : Refusal) → ((token l t table q) .answer .number ≡ numberOf why) ↔ Turn why (tokenChecks l t table q (codePlace l q))
+  token-turn = turns-exactly _ (tokenChecks l t table q (codePlace l q)) token-number
 
 module _ (l : List ℕ) (t : ℕ) (q : ResourceRequest) where
   pub resource-cases : (P : Outcome Answer → Type 0) → ((why : Refusal) → Turn why (resourceChecks l t q (tokenPlace l q)) → P (resourceLeaves l why))
@@ -150,7 +150,7 @@ module _ (l : List ℕ) where
   unfolding start
   start-passed = by (sized l)
     where
-      by : (b : Bool) → ((cond b (left done (fresh (length l))) (left (numberOf LedgerUnsound) l)) .answer ≡ done) ↔ (b ≡ true)
+      by : (b : Bool) → ((cond b (left done (emptyLedger (length l))) (left (numberOf LedgerUnsound) l)) .answer ≡ done) ↔ (b ≡ true)
       by true = (λ e. refl, λ e. refl)
       by false = (λ e. absurd (number-refused LedgerUnsound e), λ e. absurd (false≢true e))
 
@@ -163,7 +163,7 @@ module _ (l : List ℕ) where
   unfolding start first
   start-number = by (sized l)
     where
-      by : (b : Bool) → (cond b (left done (fresh (length l))) (left (numberOf LedgerUnsound) l)) .answer
+      by : (b : Bool) → (cond b (left done (emptyLedger (length l))) (left (numberOf LedgerUnsound) l)) .answer
           ≡ numberBy (cond (not b) (stopped LedgerUnsound) accepted)
       by true = refl
       by false = refl
@@ -211,12 +211,12 @@ push-numbers l t table p = listed _ (pushChecks l t table p) (push-number l t ta
 pub decide-numbers : (l : List ℕ) (t : ℕ) (d : DecideRequest) (out : List ℕ)
     → isOneOf (0 ∷ 1 ∷ 2 ∷ 20 ∷ 10 ∷ 11 ∷ 12 ∷ 7 ∷ []) ((decide l t d out) .answer .answer .number) ≡ true
 unfolding decideChecks
-decide-numbers l t d out = listed _ (decideChecks l t d out (referenceAt l d)) (decide-number l t d out)
+decide-numbers l t d out = listed _ (decideChecks l t d out (referencePlace l d)) (decide-number l t d out)
 
 pub token-numbers : (l : List ℕ) (t : ℕ) (table : List ℕ) (q : TokenRequest)
     → isOneOf (0 ∷ 1 ∷ 2 ∷ 3 ∷ 4 ∷ 13 ∷ 5 ∷ 14 ∷ 15 ∷ 11 ∷ 16 ∷ 7 ∷ []) ((token l t table q) .answer .number) ≡ true
 unfolding tokenChecks
-token-numbers l t table q = listed _ (tokenChecks l t table q (codeAt l q)) (token-number l t table q)
+token-numbers l t table q = listed _ (tokenChecks l t table q (codePlace l q)) (token-number l t table q)
 
 pub resource-numbers : (l : List ℕ) (t : ℕ) (q : ResourceRequest)
     → isOneOf (0 ∷ 1 ∷ 2 ∷ 17 ∷ 11 ∷ 18 ∷ 6 ∷ 19 ∷ []) ((resource l t q) .answer .number) ≡ true
@@ -231,7 +231,7 @@ pub start-numbers : (l : List ℕ) → isOneOf (0 ∷ 1 ∷ []) ((start l) .answ
 unfolding start
 start-numbers l = by (sized l)
   where
-    by : (b : Bool) → isOneOf (0 ∷ 1 ∷ []) ((cond b (left done (fresh (length l))) (left (numberOf LedgerUnsound) l)) .answer) ≡ true
+    by : (b : Bool) → isOneOf (0 ∷ 1 ∷ []) ((cond b (left done (emptyLedger (length l))) (left (numberOf LedgerUnsound) l)) .answer) ≡ true
     by true = refl
     by false = refl
 
@@ -248,15 +248,15 @@ pub decide-refusal : (l : List ℕ) (t : ℕ) (d : DecideRequest) (out : List �
     → (decide l t d out) .answer .answer .number ≡ numberOf why → decide l t d out ≡ decideLeaves l out why
 unfolding decide
 decide-refusal l t d out why e =
-    ap (λ (v : Verdict). concludes v (decideLeaves l out) (decideAt l t d out (referenceAt l d)))
-    (number-stopped (first (decideChecks l t d out (referenceAt l d))) why (sym (decide-number l t d out) ∙ e))
+    ap (λ (v : Verdict). concludes v (decideLeaves l out) (decideAt l t d out (referencePlace l d)))
+    (number-stopped (first (decideChecks l t d out (referencePlace l d))) why (sym (decide-number l t d out) ∙ e))
 
 pub token-refusal : (l : List ℕ) (t : ℕ) (table : List ℕ) (q : TokenRequest) (why : Refusal)
     → (token l t table q) .answer .number ≡ numberOf why → token l t table q ≡ tokenLeaves l why
 unfolding token
 token-refusal l t table q why e =
-    ap (λ (v : Verdict). concludes v (tokenLeaves l) (tokenAt l t q (codeAt l q)))
-    (number-stopped (first (tokenChecks l t table q (codeAt l q))) why (sym (token-number l t table q) ∙ e))
+    ap (λ (v : Verdict). concludes v (tokenLeaves l) (tokenAt l t q (codePlace l q)))
+    (number-stopped (first (tokenChecks l t table q (codePlace l q))) why (sym (token-number l t table q) ∙ e))
 
 pub resource-refusal : (l : List ℕ) (t : ℕ) (q : ResourceRequest) (why : Refusal)
     → (resource l t q) .answer .number ≡ numberOf why → resource l t q ≡ resourceLeaves l why
@@ -275,7 +275,7 @@ pub start-refusal : (l : List ℕ) → (start l) .answer ≡ numberOf LedgerUnso
 unfolding start
 start-refusal l = by (sized l)
   where
-    by : (b : Bool) → (cond b (left done (fresh (length l))) (left (numberOf LedgerUnsound) l)) .answer ≡ numberOf LedgerUnsound
-        → (cond b (left done (fresh (length l))) (left (numberOf LedgerUnsound) l)) .ledger ≡ l
+    by : (b : Bool) → (cond b (left done (emptyLedger (length l))) (left (numberOf LedgerUnsound) l)) .answer ≡ numberOf LedgerUnsound
+        → (cond b (left done (emptyLedger (length l))) (left (numberOf LedgerUnsound) l)) .ledger ≡ l
     by true e = absurd (number-refused LedgerUnsound (sym e))
     by false e = refl

@@ -8,7 +8,7 @@ use lib.ListN.{length}
 use Rattle.octets.specs.Plain.{NotZero}
 use Rattle.forms.specs.Plain.{RedirectWell, ChallengeWell, VerifierWell}
 use Rattle.sha256.specs.Hash.{sha256}
-use Rattle.s256.specs.Base64url.{base64url}
+use Rattle.texts.specs.Base64url.{base64url}
 use Rattle.ledger.specs.Limits.{lastNumber}
 use Rattle.ledger.specs.Fields.{nextNumber, rec, scope, expiry, holder, challenge, boundKey}
 use Rattle.ledger.specs.declared.state.State.the-variants.{Pushed, Consented}

@@ -10,14 +10,14 @@ ghost use Rattle.ledger.specs.Fields.{grant, slots};
 ghost use Rattle.ledger.specs.Checks.{taken};
 ghost use Rattle.ledger.specs.Write.{consented, free};
 ghost use Rattle.desk.specs.Answers.{answerOf, answerNo};
-ghost use Rattle.desk.specs.Told.{toldIf};
+ghost use Rattle.desk.specs.Tests.{failsWhen};
 ghost use Rattle.desk.specs.Outcome.{leftWith};
 ghost use Rattle.desk.specs.Decide.{decide, handedOut, consentAt, declineAt};
 use desk::answer::Answer;
 use desk::answer::Decided;
 use desk::answer::Refusal;
 use desk::check;
-use desk::check::Told;
+use desk::check::Test;
 use forms::Redirect;
 use ledger::clock::Timing;
 use ledger::clock::set_clock;
@@ -35,7 +35,7 @@ use octets::part::cut;
 use octets::part::put;
 
 // Writes a consent into its record, and answers what the record then has.
-fn allow(r: &mut [u8], expiry: u64, holder: u64, fresh: &[u8; 32]) -> Answer
+fn consent_record(r: &mut [u8], expiry: u64, holder: u64, fresh: &[u8; 32]) -> Answer
     ensures { λ a. ⌜ (now (r .exit) ≡ consented expiry holder (now (fresh .entry)) (now (r .entry))) × (a ≡ answerOf (now (r .exit))) ⌝ }
 {
     ledger::write::consented(r, expiry, holder, fresh);
@@ -43,7 +43,7 @@ fn allow(r: &mut [u8], expiry: u64, holder: u64, fresh: &[u8; 32]) -> Answer
 }
 
 // Frees the record, and answers whose grant it was.
-fn decline(r: &mut [u8], holder: u64) -> Answer
+fn decline_record(r: &mut [u8], holder: u64) -> Answer
     requires { ⌜ length (now r) ≡ recordSize ⌝ }
     ensures { λ a. ⌜ (now (r .exit) ≡ free) × (a ≡ answerNo (grant (now (r .entry))) holder) ⌝ }
 {
@@ -60,20 +60,20 @@ fn hand_out(out: &mut [u8], r: &[u8])
 }
 
 // The fresh value is looked at on yes alone.
-fn check_fresh(ledger: &[u8], yes: bool, fresh: &[u8; 32]) -> Told
-    ensures { λ b. ⌜ b ≡ toldIf (yes && taken (now (ledger .entry)) (now (fresh .entry))) ⌝ }
+fn check_fresh(ledger: &[u8], yes: bool, fresh: &[u8; 32]) -> Test
+    ensures { λ b. ⌜ b ≡ failsWhen (yes && taken (now (ledger .entry)) (now (fresh .entry))) ⌝ }
 {
     if !yes {
-        return Told::Passed;
+        return Test::Passed;
     }
     let Value::New = finding::pool::check(ledger, fresh) else {
-        return Told::Failed;
+        return Test::Failed;
     };
-    Told::Passed
+    Test::Passed
 }
 
-// Yes: what is written once the record is found and all checks have passed.
-fn consent(
+// Yes: what is written once the record is found and all checks have passed: record k, which is lent on, the clock, and the output.
+fn consent_at(
     ledger: &mut [u8],
     k: usize,
     time: u64,
@@ -87,7 +87,7 @@ fn consent(
     let a = Ledger::HEAD + k * Ledger::RECORD;
     let length = redirect_length(&ledger[a..a + Ledger::RECORD]);
     hand_out(out, &ledger[a..a + Ledger::RECORD]);
-    let answer = allow(
+    let answer = consent_record(
         &mut ledger[a..a + Ledger::RECORD],
         time + Code::LIFETIME,
         holder,
@@ -98,14 +98,14 @@ fn consent(
 }
 
 // No: the same where the record is freed.
-fn refuse(ledger: &mut [u8], k: usize, time: u64, holder: u64, out: &mut [u8]) -> Decided
+fn decline_at(ledger: &mut [u8], k: usize, time: u64, holder: u64, out: &mut [u8]) -> Decided
     requires { ⌜ k < slots (now ledger) ⌝ }
     ensures { λ r. ⌜ leftWith r (now (ledger .exit)) (now (out .exit)) ≡ declineAt (now (ledger .entry)) time holder (now (out .entry)) k ⌝ }
 {
     let a = Ledger::HEAD + k * Ledger::RECORD;
     let length = redirect_length(&ledger[a..a + Ledger::RECORD]);
     hand_out(out, &ledger[a..a + Ledger::RECORD]);
-    let answer = decline(&mut ledger[a..a + Ledger::RECORD], holder);
+    let answer = decline_record(&mut ledger[a..a + Ledger::RECORD], holder);
     set_clock(ledger, time);
     Decided::with(answer, length)
 }
@@ -128,7 +128,7 @@ pub fn decide(
     let Timing::Timely = ledger::clock::check(ledger, time) else {
         return Decided::refused(Refusal::TimeWrong);
     };
-    let Told::Passed = check::room(out) else {
+    let Test::Passed = check::room(out) else {
         return Decided::refused(Refusal::OutputShort);
     };
     let Found::At(k) = finding::record::reference(ledger, reference, client) else {
@@ -137,14 +137,14 @@ pub fn decide(
     let Life::Alive = check_life(ledger::record::at(ledger, k), time) else {
         return Decided::refused(Refusal::RecordExpired);
     };
-    let Told::Passed = check::given(holder) else {
+    let Test::Passed = check::given(holder) else {
         return Decided::refused(Refusal::NoHolder);
     };
-    let Told::Passed = check_fresh(ledger, yes, fresh) else {
+    let Test::Passed = check_fresh(ledger, yes, fresh) else {
         return Decided::refused(Refusal::FreshTaken);
     };
     if yes {
-        return consent(ledger, k, time, holder, fresh, out);
+        return consent_at(ledger, k, time, holder, fresh, out);
     }
-    refuse(ledger, k, time, holder, out)
+    decline_at(ledger, k, time, holder, out)
 }

@@ -35,17 +35,18 @@ use Rattle.upkeep.proofs.Kept.{head-swept}
 use Rattle.upkeep.proofs.Written.{redirect-front}
 use Rattle.clients.specs.Fields.{idSpan}
 use Rattle.clients.specs.Known.{placeOf}
+use Rattle.clients.specs.Fields.{idSpan}
 use Rattle.clients.proofs.Entries.{field-length}
 use Rattle.desk.specs.Limits.{outputLeast}
 use Rattle.desk.specs.Answers.{done}
 use Rattle.desk.specs.Requests.{PushRequest, DecideRequest, TokenRequest, ResourceRequest}
-use Rattle.desk.specs.Start.{fresh}
+use Rattle.desk.specs.Start.{emptyLedger}
 use Rattle.desk.specs.Push.{pushRecord, pushAt}
-use Rattle.desk.specs.Decide.{referenceAt, handedOut, consentRecord, consentAt, declineAt, decideAt}
-use Rattle.desk.specs.Token.{codeAt, tokenRecord, tokenAt}
+use Rattle.desk.specs.Decide.{referencePlace, handedOut, consentRecord, consentAt, declineAt, decideAt}
+use Rattle.desk.specs.Token.{codePlace, tokenRecord, tokenAt}
 use Rattle.desk.specs.Resource.{tokenPlace}
 use Rattle.conduct.specs.Conditions.{StandsAt}
-use Rattle.conduct.proofs.Turns.{number-refused}
+use Rattle.desk.proofs.Turns.{number-refused}
 use Rattle.conduct.proofs.Rows.{push-cases, decide-cases, token-cases, resource-cases, sweep-cases}
 use Rattle.conduct.proofs.Facts.{PushFacts, push-facts, DecideFacts, decide-facts, TokenFacts, token-facts, resource-facts, sweep-facts}
 use Rattle.conduct.proofs.Readings.{known-is, free-stands, reference-stands, code-stands, token-stands}
@@ -119,9 +120,9 @@ zero-bytes : blank 8 ≡ eightBytes 0
 unfolding blank digits
 zero-bytes = refl
 
-fresh-is : (n : ℕ) → 16 ≤ n → fresh n ≡ eightBytes 0 ++ (eightBytes 1 ++ blank (n - 16))
-unfolding fresh
-fresh-is n h =
+empty-is : (n : ℕ) → 16 ≤ n → emptyLedger n ≡ eightBytes 0 ++ (eightBytes 1 ++ blank (n - 16))
+unfolding emptyLedger
+empty-is n h =
     let w = length-blank n in
     let e = length-digits 8 1 in
     let z = zeros-blank n in
@@ -137,7 +138,7 @@ pub after-start : (l : List ℕ) → leaves l [] start .number ≡ done → Afte
 after-start l e =
     let (z, is) = start-writes l e in
     let (a, rest) = sized-says l .0 z in
-    record { ledger-is = is ∙ fresh-is (length l) (omega arith); answer-is = refl }
+    record { ledger-is = is ∙ empty-is (length l) (omega arith); answer-is = refl }
 
 -- ---- push
 
@@ -206,7 +207,7 @@ handed-is r out long h m z =
 
 module _ (l : List ℕ) (t : ℕ) (d : DecideRequest) (out : List ℕ) where
   abbrev waits : ℕ
-  waits = referenceAt l d
+  waits = referencePlace l d
 
   abbrev asked : List ℕ
   asked = rec l waits
@@ -293,7 +294,7 @@ module _ (l : List ℕ) (t : ℕ) (d : DecideRequest) (out : List ℕ) where
 
 module _ (l : List ℕ) (t : ℕ) (table : List ℕ) (q : TokenRequest) where
   abbrev code-place : ℕ
-  code-place = codeAt l q
+  code-place = codePlace l q
 
   token-place : TokenFacts l t table q → StandsAt Consented l (q .code) (q .client) code-place
   token-place f =

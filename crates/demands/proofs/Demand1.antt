@@ -23,7 +23,7 @@ use Rattle.desk.specs.Token.{tokenAt}
 use Rattle.desk.specs.declared.answer.Refusal.{Refusal}
 use Rattle.desk.specs.declared.answer.Refusal.the-variants.{LedgerUnsound, TimeWrong, TableUnsound}
 use Rattle.conduct.specs.Conditions.{InTime}
-use Rattle.conduct.proofs.Turns.{number-refused}
+use Rattle.desk.proofs.Turns.{number-refused}
 use Rattle.conduct.proofs.Readings.{time-says}
 use Rattle.conduct.proofs.Rows.{start-numbers, push-numbers, decide-numbers, token-numbers, resource-numbers, sweep-numbers, push-cases, decide-cases, token-cases, resource-cases, sweep-cases}
 use Rattle.conduct.proofs.Alone.{either-way, start-unchanged, push-unchanged, decide-unchanged, token-unchanged, resource-unchanged, sweep-unchanged}

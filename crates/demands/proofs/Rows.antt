@@ -15,7 +15,7 @@ use Rattle.octets.proofs.Parts.{same-eq, same-of}
 use Rattle.forms.specs.Forms.{redirectFormed, challengeFormed, verifierFormed}
 use Rattle.forms.proofs.Laws.{redirect-says, challenge-says, verifier-says}
 use Rattle.sha256.specs.Hash.{sha256}
-use Rattle.s256.specs.Base64url.{base64url}
+use Rattle.texts.specs.Base64url.{base64url}
 use Rattle.s256.specs.Rule.{matches}
 use Rattle.ledger.specs.Limits.{lastNumber}
 use Rattle.ledger.specs.Fields.{nextNumber, rec, slots, records, state, stateNumber, inState, scope, expiry, holder, challenge, boundKey}
@@ -34,8 +34,8 @@ use Rattle.desk.specs.Checks.{scopeFits}
 use Rattle.desk.specs.Limits.{outputLeast}
 use Rattle.desk.specs.Requests.{PushRequest, DecideRequest, TokenRequest, ResourceRequest}
 use Rattle.desk.specs.Push.{pushChecks}
-use Rattle.desk.specs.Decide.{referenceAt, decideChecks}
-use Rattle.desk.specs.Token.{codeAt, tokenChecks}
+use Rattle.desk.specs.Decide.{referencePlace, decideChecks}
+use Rattle.desk.specs.Token.{codePlace, tokenChecks}
 use Rattle.desk.specs.Resource.{tokenPlace, resourceChecks}
 use Rattle.desk.specs.Sweep.{sweepChecks}
 use Rattle.desk.specs.declared.answer.Refusal.{Refusal}
@@ -110,12 +110,12 @@ module _ (l : List ℕ) (t : ℕ) (d : DecideRequest) (out : List ℕ) where
       let f = flip-says (taken l (d .fresh)) (fresh-says l (d .fresh)) in
       (λ e. let (a, b) = both (d .yes) (taken l (d .fresh)) e in (a, f .0 b), λ x. both-true (d .yes) (taken l (d .fresh)) (x .0) (f .1 (x .1)))
 
-  reference-here : sound l ≡ true → (k : ℕ) → StandsAt Pushed l (d .reference) (d .client) k → referenceAt l d ≡ k
+  reference-here : sound l ≡ true → (k : ℕ) → StandsAt Pushed l (d .reference) (d .client) k → referencePlace l d ≡ k
   reference-here ok k x =
       place-named (isReference (d .reference) (d .client)) l k
       (reference-first l ok (d .reference) (d .client) k (x .inside) (reference-stands l (d .reference) (d .client) k (x .inside) .1 x))
 
-  decide-agrees : Agreed (decideChecks l t d out (referenceAt l d)) (decideRows l t d out)
+  decide-agrees : Agreed (decideChecks l t d out (referencePlace l d)) (decideRows l t d out)
   unfolding decideChecks
   decide-agrees =
       row (not-says (sound l) (ledger-says l)) (λ s.
@@ -125,16 +125,16 @@ module _ (l : List ℕ) (t : ℕ) (d : DecideRequest) (out : List ℕ) where
       (none-says (isReference (d .reference) (d .client)) l (StandsAt Pushed l (d .reference) (d .client)) (λ k x. x .inside) (reference-stands l (d .reference) (d .client)))
       (λ n.
       let f = first-in (isReference (d .reference) (d .client)) l (not-false (some (isReference (d .reference) (d .client)) (records l)) n) in
-      let here = reference-stands l (d .reference) (d .client) (referenceAt l d) (f .inside) .0 (f .passes) in
+      let here = reference-stands l (d .reference) (d .client) (referencePlace l d) (f .inside) .0 (f .passes) in
       row
       (at-found (λ (k : ℕ). expired t (rec l k)) (StandsAt Pushed l (d .reference) (d .client)) (λ (k : ℕ). expiry (rec l k) ≤ t) (λ k. expired-says t (rec l k))
-      (referenceAt l d) here (reference-here (not-false (sound l) s)))
+      (referencePlace l d) here (reference-here (not-false (sound l) s)))
       (λ e.
       row (eqb-true (d .holder) 0, eq-eqb (d .holder) 0) (λ h.
       row taken-says (λ v. none)))))))
 
   decide-turns : (why : Refusal) → (leaves l [] (decide t d out) .number ≡ numberOf why) ↔ Turn why (decideRows l t d out)
-  decide-turns why = turns-say _ why (decideChecks l t d out (referenceAt l d)) (decideRows l t d out) decide-agrees (decide-turn l t d out why)
+  decide-turns why = turns-say _ why (decideChecks l t d out (referencePlace l d)) (decideRows l t d out) decide-agrees (decide-turn l t d out why)
 
 module _ (l : List ℕ) (t : ℕ) (table : List ℕ) (q : TokenRequest) where
   abbrev Waits : ℕ → Type 0
@@ -158,24 +158,24 @@ module _ (l : List ℕ) (t : ℕ) (table : List ℕ) (q : TokenRequest) where
   code-inside : (k : ℕ) → Waits k ⊎ Spent k → k < slots l
   code-inside k u = ⊎-elim (λ w. w .inside) (λ w. w .inside) u
 
-  code-here : sound l ≡ true → (k : ℕ) → k < slots l → isCode (q .code) (q .client) (rec l k) ≡ true → codeAt l q ≡ k
+  code-here : sound l ≡ true → (k : ℕ) → k < slots l → isCode (q .code) (q .client) (rec l k) ≡ true → codePlace l q ≡ k
   code-here ok k h e = place-named (isCode (q .code) (q .client)) l k (code-first l ok (q .code) (q .client) k h e)
 
-  waits-here : sound l ≡ true → (k : ℕ) → Waits k → codeAt l q ≡ k
+  waits-here : sound l ≡ true → (k : ℕ) → Waits k → codePlace l q ≡ k
   waits-here ok k x = code-here ok k (x .inside) (code-stands l (q .code) (q .client) k (x .inside) .1 x .0)
 
   -- 15, where the record is found
   redeemed-says : sound l ≡ true → some (isCode (q .code) (q .client)) (records l) ≡ true
-      → (inState Redeemed (rec l (codeAt l q)) ≡ true) ↔ ((k : ℕ) × Spent k)
+      → (inState Redeemed (rec l (codePlace l q)) ≡ true) ↔ ((k : ℕ) × Spent k)
   redeemed-says ok there =
       let f = first-in (isCode (q .code) (q .client)) l there in (
-        λ e. (codeAt l q, redeemed-stands l (q .code) (q .client) (codeAt l q) (f .inside) .0 (f .passes, e)),
+        λ e. (codePlace l q, redeemed-stands l (q .code) (q .client) (codePlace l q) (f .inside) .0 (f .passes, e)),
         λ x.
             let (a, b) = redeemed-stands l (q .code) (q .client) (x .0) (x .1 .inside) .1 (x .1) in
             ap (λ (k : ℕ). inState Redeemed (rec l k)) (code-here ok (x .0) (x .1 .inside) a) ∙ b,
       )
 
-  token-agrees : Agreed (tokenChecks l t table q (codeAt l q)) (tokenRows l t table q)
+  token-agrees : Agreed (tokenChecks l t table q (codePlace l q)) (tokenRows l t table q)
   unfolding tokenChecks
   token-agrees =
       row (not-says (sound l) (ledger-says l)) (λ s.
@@ -189,18 +189,18 @@ module _ (l : List ℕ) (t : ℕ) (table : List ℕ) (q : TokenRequest) where
       let there = not-false (some (isCode (q .code) (q .client)) (records l)) n in
       let f = first-in (isCode (q .code) (q .client)) l there in
       row (redeemed-says ok there) (λ r.
-      let here = code-stands l (q .code) (q .client) (codeAt l q) (f .inside) .0 (f .passes, r) in
+      let here = code-stands l (q .code) (q .client) (codePlace l q) (f .inside) .0 (f .passes, r) in
       row
-      (at-found (λ (k : ℕ). expired t (rec l k)) Waits (λ (k : ℕ). expiry (rec l k) ≤ t) (λ k. expired-says t (rec l k)) (codeAt l q) here (waits-here ok))
+      (at-found (λ (k : ℕ). expired t (rec l k)) Waits (λ (k : ℕ). expiry (rec l k) ≤ t) (λ k. expired-says t (rec l k)) (codePlace l q) here (waits-here ok))
       (λ e.
       row
       (at-found (λ (k : ℕ). not (matches (q .verifier) (challenge (rec l k)))) Waits (λ (k : ℕ). base64url (sha256 (q .verifier)) ≢ challenge (rec l k))
-      (λ k. not-says (matches (q .verifier) (challenge (rec l k))) (match-says (q .verifier) (challenge (rec l k)))) (codeAt l q) here (waits-here ok))
+      (λ k. not-says (matches (q .verifier) (challenge (rec l k))) (match-says (q .verifier) (challenge (rec l k)))) (codePlace l q) here (waits-here ok))
       (λ m.
       row (flip-says (taken l (q .fresh)) (fresh-says l (q .fresh))) (λ v. none)))))))))))
 
   token-turns : (why : Refusal) → (leaves l table (token t q) .number ≡ numberOf why) ↔ Turn why (tokenRows l t table q)
-  token-turns why = turns-say _ why (tokenChecks l t table q (codeAt l q)) (tokenRows l t table q) token-agrees (token-turn l t table q why)
+  token-turns why = turns-say _ why (tokenChecks l t table q (codePlace l q)) (tokenRows l t table q) token-agrees (token-turn l t table q why)
 
 module _ (l : List ℕ) (t : ℕ) (q : ResourceRequest) where
   token-here : sound l ≡ true → (k : ℕ) → TokenAt l (q .token) k → tokenPlace l q ≡ k

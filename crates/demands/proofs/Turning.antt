@@ -8,7 +8,7 @@ use borrow.Author.Tests.{not-true}
 use Rattle.octets.proofs.Tests.{false-of}
 use Rattle.desk.specs.Checks.{Check, _when_}
 use Rattle.desk.specs.declared.answer.Refusal.{Refusal}
-use Rattle.conduct.proofs.Turns.{Turn as Stop}
+use Rattle.desk.proofs.Turns.{Turn as Stop}
 use Rattle.demands.specs.Rows.{Not, Row, _given_, Turn}
 
 -- row by row: the same number, and the test says what the condition does

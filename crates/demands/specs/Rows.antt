@@ -8,7 +8,7 @@ use lib.ListN.{length}
 use Rattle.octets.specs.Plain.{AllZero}
 use Rattle.forms.specs.Plain.{RedirectWell, ChallengeWell, VerifierWell}
 use Rattle.sha256.specs.Hash.{sha256}
-use Rattle.s256.specs.Base64url.{base64url}
+use Rattle.texts.specs.Base64url.{base64url}
 use Rattle.ledger.specs.Limits.{lastNumber}
 use Rattle.ledger.specs.Fields.{nextNumber, rec, slots, state, stateNumber, scope, expiry, holder, challenge, boundKey}
 use Rattle.ledger.specs.declared.state.State.the-variants.{Free, Pushed, Consented, Redeemed}

@@ -1,4 +1,4 @@
--- What is written once a call's record is found, as the code lends it. Assumes nothing.
+-- What is written once a call's record is found, as the code lends it.
 use Prim.Native.Nat.{ℕ, _+_, _*_, _-_, _≤_, _<_, _^_}
 use native.Mathlib.Nat.{add-sub-cancel-left}
 use native.Mathlib.Omega.{arith}
@@ -13,21 +13,25 @@ use Rattle.ledger.specs.Sound.{sized, sound}
 use Rattle.octets.specs.Lists.{place}
 use Rattle.octets.specs.Parts.{part, splice}
 use Rattle.octets.proofs.Lists.{place-lt}
-use Rattle.ledger.specs.Limits.{referenceLifetime, codeLifetime, tokenLifetime, lastNumber}
+use Rattle.ledger.specs.Limits.{codeLifetime, tokenLifetime, lastNumber}
 use Rattle.ledger.specs.Fields.{rec, slots, records, clock, nextNumber, grant, redirectLength, withRecord, withNext, withClock}
 use Rattle.ledger.specs.Checks.{untimely, found, isFree}
 use Rattle.ledger.specs.Write.{pushed, consented, redeemed, free}
 use Rattle.ledger.specs.declared.find.Found.the-variants.{At}
 use Rattle.ledger.proofs.Records.{whole-part, length-records}
 use Rattle.ledger.proofs.Told.{found-told, found-place}
-use Rattle.desk.specs.Answers.{answerOf, answerNo, decided}
+use Rattle.clients.specs.Fields.{permitted}
+use Rattle.ledger.specs.Sweep.{freed, swept}
+use Rattle.ledger.specs.declared.sweep.Freed.{Freed}
+use Rattle.desk.specs.Answers.{answerOf, answerNo, decided, sweptOf}
 use Rattle.desk.specs.Requests.{PushRequest, DecideRequest, TokenRequest}
 use Rattle.desk.specs.Outcome.{Outcome, left, leftWith}
-use Rattle.desk.specs.Push.{pushAt, pushRecord}
-use Rattle.desk.specs.Decide.{referenceAt, handedOut, consentRecord, consentAt, declineAt, decideAt}
-use Rattle.desk.specs.Token.{codeAt, tokenRecord, tokenAt}
+use Rattle.desk.specs.Push.{clientRecord, grantedBits, lifetime, freePlace, entered, pushAt, pushRecord}
+use Rattle.desk.specs.Decide.{referencePlace, handedOut, consentRecord, consentAt, declineAt, decideAt}
+use Rattle.desk.specs.Token.{codePlace, tokenRecord, rewritten, tokenAt}
 use Rattle.desk.specs.declared.answer.Answer.{Answer}
 use Rattle.desk.specs.declared.answer.Decided.{Decided}
+use Rattle.desk.specs.declared.answer.Swept.{Swept}
 
 -- a record that comes back from its loan
 pub lent-back : (l : List ℕ) (k : ℕ) (x y : List ℕ) → x ≡ y → splice l (32 + k * 256) (32 + k * 256 + 256 - (32 + k * 256)) x ≡ withRecord l k y
@@ -64,13 +68,12 @@ module _ (l : List ℕ) (t k : ℕ) (inside : k < slots l) where
   pub lent-is : lent ≡ rec l k
   lent-is = whole-part l k inside .0
 
-  pub push-written : (bits number : ℕ) (id text new target x y z : List ℕ) (a : Answer)
-      → x ≡ pushed bits number (t + referenceLifetime) id text new target lent → a ≡ answerOf x
+  pub push-written : (bits number until : ℕ) (id text new target x y z : List ℕ) (a : Answer)
+      → x ≡ pushed bits number until id text new target lent → a ≡ answerOf x
       → y ≡ withNext (number + 1) (splice l start (start + 256 - start) x) → z ≡ withClock t y
-      → left a z ≡ left (answerOf (pushed bits number (t + referenceLifetime) id text new target (rec l k)))
-      (withClock t (withNext (number + 1) (withRecord l k (pushed bits number (t + referenceLifetime) id text new target (rec l k)))))
-  push-written bits number id text new target x y z a hx ha hy hz =
-      let e1 : x ≡ pushed bits number (t + referenceLifetime) id text new target (rec l k) = hx ∙ rw lent-is in
+      → left a z ≡ entered l t k number (pushed bits number until id text new target (rec l k))
+  push-written bits number until id text new target x y z a hx ha hy hz =
+      let e1 : x ≡ pushed bits number until id text new target (rec l k) = hx ∙ rw lent-is in
       let e2 : y ≡ withNext (number + 1) (withRecord l k x) = hy ∙ ap (withNext (number + 1)) (lent-back l k x x refl) in
       rw (hz, e2, ha, e1)
 
@@ -95,45 +98,46 @@ module _ (l : List ℕ) (t k : ℕ) (inside : k < slots l) where
       let e2 : z ≡ withClock t (withRecord l k free) = hz ∙ ap (withClock t) (lent-back l k x free hx) in
       rw (hd, e2, ha, hn, ho, lent-is)
 
-  pub token-written : (new key x z : List ℕ) (a : Answer)
-      → x ≡ redeemed (t + tokenLifetime) new key lent → a ≡ answerOf x
-      → z ≡ withClock t (splice l start (start + 256 - start) x)
-      → left a z ≡ left (answerOf (redeemed (t + tokenLifetime) new key (rec l k))) (withClock t (withRecord l k (redeemed (t + tokenLifetime) new key (rec l k))))
-  token-written new key x z a hx ha hz =
-      let e1 : x ≡ redeemed (t + tokenLifetime) new key (rec l k) = hx ∙ rw lent-is in
+  pub token-written : (until : ℕ) (new key x z : List ℕ) (a : Answer)
+      → x ≡ redeemed until new key lent → a ≡ answerOf x
+      → z ≡ withClock t (splice l start (start + 256 - start) x) → left a z ≡ rewritten l t k (redeemed until new key (rec l k))
+  token-written until new key x z a hx ha hz =
+      let e1 : x ≡ redeemed until new key (rec l k) = hx ∙ rw lent-is in
       let e2 : z ≡ withClock t (withRecord l k x) = hz ∙ ap (withClock t) (lent-back l k x x refl) in
       rw (e2, ha, e1)
 
 -- what is written at the place found is what the definition says
-pub push-at : (l : List ℕ) (t : ℕ) (table : List ℕ) (p : PushRequest) (k bits number : ℕ) → place isFree (records l) ≡ k → bits ≡ p .scope → number ≡ nextNumber l
-    → left (answerOf (pushed bits number (t + referenceLifetime) (p .client) (p .challenge) (p .fresh) (p .redirect) (rec l k)))
-    (withClock t (withNext (number + 1) (withRecord l k (pushed bits number (t + referenceLifetime) (p .client) (p .challenge) (p .fresh) (p .redirect) (rec l k)))))
-    ≡ pushAt l t table p (place isFree (records l))
+pub push-at : (l : List ℕ) (t : ℕ) (table : List ℕ) (p : PushRequest) (k bits number until : ℕ) → freePlace l ≡ k
+    → grantedBits (p .scope) (permitted (clientRecord table p)) ≡ bits → number ≡ nextNumber l → until ≡ t + lifetime (clientRecord table p)
+    → entered l t k number (pushed bits number until (p .client) (p .challenge) (p .fresh) (p .redirect) (rec l k)) ≡ pushAt l t table p (freePlace l)
 unfolding pushAt pushRecord
-push-at l t table p k bits number e hb hn = rw (e, hb, hn)
+push-at l t table p k bits number until e hb hn hu = rw (e, ← hb, hn, hu)
 
-pub token-at : (l : List ℕ) (t : ℕ) (q : TokenRequest) (k : ℕ) → codeAt l q ≡ k
-    → left (answerOf (redeemed (t + tokenLifetime) (q .fresh) (q .presented) (rec l k)))
-    (withClock t (withRecord l k (redeemed (t + tokenLifetime) (q .fresh) (q .presented) (rec l k))))
-    ≡ tokenAt l t q (codeAt l q)
+pub token-at : (l : List ℕ) (t : ℕ) (q : TokenRequest) (k : ℕ) → codePlace l q ≡ k
+    → rewritten l t k (redeemed (t + tokenLifetime) (q .fresh) (q .presented) (rec l k)) ≡ tokenAt l t q (codePlace l q)
 unfolding tokenAt tokenRecord
 token-at l t q k e = rw e
 
-pub decide-yes : (l : List ℕ) (t : ℕ) (d : DecideRequest) (out : List ℕ) (k : ℕ) → d .yes ≡ true → referenceAt l d ≡ k
-    → decideAt l t d out (referenceAt l d) ≡ consentAt l t (d .holder) (d .fresh) out k
+pub decide-yes : (l : List ℕ) (t : ℕ) (d : DecideRequest) (out : List ℕ) (k : ℕ) → d .yes ≡ true → referencePlace l d ≡ k
+    → decideAt l t d out (referencePlace l d) ≡ consentAt l t (d .holder) (d .fresh) out k
 unfolding decideAt
 decide-yes l t d out k y e = rw e (by (d .yes) y)
   where
     by : (b : Bool) → b ≡ true → cond b (consentAt l t (d .holder) (d .fresh) out k) (declineAt l t (d .holder) out k) ≡ consentAt l t (d .holder) (d .fresh) out k
     by b h = rw h
 
-pub decide-no : (l : List ℕ) (t : ℕ) (d : DecideRequest) (out : List ℕ) (k : ℕ) → d .yes ≡ false → referenceAt l d ≡ k
-    → decideAt l t d out (referenceAt l d) ≡ declineAt l t (d .holder) out k
+pub decide-no : (l : List ℕ) (t : ℕ) (d : DecideRequest) (out : List ℕ) (k : ℕ) → d .yes ≡ false → referencePlace l d ≡ k
+    → decideAt l t d out (referencePlace l d) ≡ declineAt l t (d .holder) out k
 unfolding decideAt
 decide-no l t d out k y e = rw e (by (d .yes) y)
   where
     by : (b : Bool) → b ≡ false → cond b (consentAt l t (d .holder) (d .fresh) out k) (declineAt l t (d .holder) out k) ≡ declineAt l t (d .holder) out k
     by b h = rw h
+
+-- a sweep of the records, then the clock
+pub sweep-written : (l : List ℕ) (t : ℕ) (y z : List ℕ) (f : Freed) (a : Swept) → f ≡ freed t l → y ≡ swept t l → z ≡ withClock t y → a ≡ sweptOf f
+    → left a z ≡ left (sweptOf (freed t l)) (withClock t (swept t l))
+sweep-written l t y z f a hf hy hz ha = rw (ha, hz, hy, hf)
 
 -- ---- a refusal, as the code returns it
 

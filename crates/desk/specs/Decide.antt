@@ -20,8 +20,8 @@ use Rattle.desk.specs.declared.answer.Refusal.{Refusal}
 use Rattle.desk.specs.declared.answer.Refusal.the-variants.{OutputShort, NoReference, RecordExpired, NoHolder, FreshTaken}
 
 -- where the record with this reference and client id is
-abbrev pub referenceAt : List ℕ → DecideRequest → ℕ
-referenceAt l d = place (isReference (d .reference) (d .client)) (records l)
+abbrev pub referencePlace : List ℕ → DecideRequest → ℕ
+referencePlace l d = place (isReference (d .reference) (d .client)) (records l)
 
 -- the checks, in order, k being that place
 unfoldable pub decideChecks : List ℕ → ℕ → DecideRequest → List ℕ → ℕ → List Check
@@ -61,4 +61,4 @@ decideLeaves l out why = leftWith (undecided why) l out
 
 unfoldable pub decide : List ℕ → ℕ → DecideRequest → List ℕ → Outcome Decided
 decide l t d out =
-    concludes (first (decideChecks l t d out (referenceAt l d))) (decideLeaves l out) (decideAt l t d out (referenceAt l d))
+    concludes (first (decideChecks l t d out (referencePlace l d))) (decideLeaves l out) (decideAt l t d out (referencePlace l d))

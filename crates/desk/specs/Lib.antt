@@ -4,10 +4,10 @@ pub mod Answers
 pub mod Checks
 pub mod Outcome
 pub mod Requests
-pub mod Told
 pub mod Start
 pub mod Push
 pub mod Decide
 pub mod Token
 pub mod Resource
 pub mod Sweep
+pub mod Tests

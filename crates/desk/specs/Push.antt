@@ -29,8 +29,8 @@ use Rattle.desk.specs.declared.answer.Refusal.the-variants.{
 }
 
 -- the client's record, found by its id
-abbrev pub asker : List ℕ → PushRequest → List ℕ
-asker table p = client table (placeOf table (p .client))
+abbrev pub clientRecord : List ℕ → PushRequest → List ℕ
+clientRecord table p = client table (placeOf table (p .client))
 
 -- the checks, in order
 unfoldable pub pushChecks : List ℕ → ℕ → List ℕ → PushRequest → List Check
@@ -39,11 +39,15 @@ pushChecks l t table p =
     ((TableUnsound when not (tableSound table))
     ∷ (ClientUnknown when not (isKnown table (p .client) (p .key)))
     ∷ (IllFormed when not (redirectFormed (p .redirect) && challengeFormed (p .challenge)))
-    ∷ (ScopeRefused when not (scopeFits (p .scope) (permitted (asker table p))))
+    ∷ (ScopeRefused when not (scopeFits (p .scope) (permitted (clientRecord table p))))
     ∷ (FreshTaken when taken l (p .fresh))
     ∷ (LedgerFull when not (some isFree (records l)))
     ∷ (NumbersSpent when eqb (nextNumber l) lastNumber)
     ∷ [])
+
+-- the bits that a push stores, of those asked and those permitted: all that were asked
+abbrev pub grantedBits : ℕ → ℕ → ℕ
+grantedBits asked permitted = asked
 
 -- the seconds that a reference lives, by the client's record: the same for all
 abbrev pub lifetime : List ℕ → ℕ
@@ -52,17 +56,23 @@ lifetime c = referenceLifetime
 -- "The first free record in ledger order becomes state 1 with the next grant number, value = fresh, expiry = now + 599."
 unfoldable pub pushRecord : List ℕ → ℕ → List ℕ → PushRequest → List ℕ → List ℕ
 pushRecord l t table p r =
-    pushed (p .scope) (nextNumber l) (t + lifetime (asker table p)) (p .client) (p .challenge) (p .fresh) (p .redirect) r
+    pushed (grantedBits (p .scope) (permitted (clientRecord table p))) (nextNumber l) (t + lifetime (clientRecord table p)) (p .client) (p .challenge)
+    (p .fresh) (p .redirect) r
 
--- "The next number rises by one." "the clock becomes now"
+-- record k becomes r, which has grant number n; "The next number rises by one." "the clock becomes now"
+abbrev pub entered : List ℕ → ℕ → ℕ → ℕ → List ℕ → Outcome Answer
+entered l t k n r = left (answerOf r) (withClock t (withNext (n + 1) (withRecord l k r)))
+
+-- where the first free record is
+abbrev pub freePlace : List ℕ → ℕ
+freePlace l = place isFree (records l)
+
 unfoldable pub pushAt : List ℕ → ℕ → List ℕ → PushRequest → ℕ → Outcome Answer
-pushAt l t table p k =
-    left (answerOf (pushRecord l t table p (rec l k)))
-    (withClock t (withNext (nextNumber l + 1) (withRecord l k (pushRecord l t table p (rec l k)))))
+pushAt l t table p k = entered l t k (nextNumber l) (pushRecord l t table p (rec l k))
 
 -- each row: "A refusal has zeros beside its number and changes no lent byte, clock included."
 abbrev pub pushLeaves : List ℕ → Refusal → Outcome Answer
 pushLeaves l why = left (refused why) l
 
 unfoldable pub push : List ℕ → ℕ → List ℕ → PushRequest → Outcome Answer
-push l t table p = concludes (first (pushChecks l t table p)) (pushLeaves l) (pushAt l t table p (place isFree (records l)))
+push l t table p = concludes (first (pushChecks l t table p)) (pushLeaves l) (pushAt l t table p (freePlace l))

@@ -11,9 +11,9 @@ use Rattle.desk.specs.Outcome.{Outcome, left}
 use Rattle.desk.specs.declared.answer.Refusal.the-variants.{LedgerUnsound}
 
 -- the bytes that start writes over a buffer of n bytes
-unfoldable pub fresh : ℕ → List ℕ
-fresh n = withNext 1 (blank n)
+unfoldable pub emptyLedger : ℕ → List ℕ
+emptyLedger n = withNext 1 (blank n)
 
 -- "Start answers only its number."
 unfoldable pub start : List ℕ → Outcome ℕ
-start l = cond (sized l) (left done (fresh (length l))) (left (numberOf LedgerUnsound) l)
+start l = cond (sized l) (left done (emptyLedger (length l))) (left (numberOf LedgerUnsound) l)

@@ -32,8 +32,8 @@ use Rattle.desk.specs.declared.answer.Refusal.the-variants.{
 }
 
 -- where the record in state 2 or 3 with this code and client id is
-abbrev pub codeAt : List ℕ → TokenRequest → ℕ
-codeAt l q = place (isCode (q .code) (q .client)) (records l)
+abbrev pub codePlace : List ℕ → TokenRequest → ℕ
+codePlace l q = place (isCode (q .code) (q .client)) (records l)
 
 -- the checks, in order, k being that place
 unfoldable pub tokenChecks : List ℕ → ℕ → List ℕ → TokenRequest → ℕ → List Check
@@ -54,12 +54,16 @@ tokenChecks l t table q k =
 unfoldable pub tokenRecord : ℕ → TokenRequest → List ℕ → List ℕ
 tokenRecord t q r = redeemed (t + tokenLifetime) (q .fresh) (q .presented) r
 
+-- "An accepted call rewrites one record and the clock": record k becomes r, and is answered
+abbrev pub rewritten : List ℕ → ℕ → ℕ → List ℕ → Outcome Answer
+rewritten l t k r = left (answerOf r) (withClock t (withRecord l k r))
+
 unfoldable pub tokenAt : List ℕ → ℕ → TokenRequest → ℕ → Outcome Answer
-tokenAt l t q k = left (answerOf (tokenRecord t q (rec l k))) (withClock t (withRecord l k (tokenRecord t q (rec l k))))
+tokenAt l t q k = rewritten l t k (tokenRecord t q (rec l k))
 
 -- each row: "A refusal has zeros beside its number and changes no lent byte, clock included."
 abbrev pub tokenLeaves : List ℕ → Refusal → Outcome Answer
 tokenLeaves l why = left (refused why) l
 
 unfoldable pub token : List ℕ → ℕ → List ℕ → TokenRequest → Outcome Answer
-token l t table q = concludes (first (tokenChecks l t table q (codeAt l q))) (tokenLeaves l) (tokenAt l t q (codeAt l q))
+token l t table q = concludes (first (tokenChecks l t table q (codePlace l q))) (tokenLeaves l) (tokenAt l t q (codePlace l q))

@@ -9,7 +9,8 @@ ghost use Rattle.ledger.specs.Limits.{lastNumber};
 ghost use Rattle.ledger.specs.Fields.{inState, boundKey, holder};
 ghost use Rattle.ledger.specs.declared.state.State.the-variants.{Redeemed};
 ghost use Rattle.desk.specs.Limits.{outputLeast};
-ghost use Rattle.desk.specs.Told.{toldIf, toldTexts, toldScope};
+ghost use Rattle.desk.specs.Checks.{scopeFits};
+ghost use Rattle.desk.specs.Tests.{failsWhen, textsTest, scopeDecision};
 use forms::Challenge;
 use forms::Form;
 use forms::Redirect;
@@ -22,108 +23,125 @@ use octets::part::is_zero;
 use octets::part::same;
 
 // What a check of the desk's own answers.
-pub enum Told {
+pub enum Test {
     Passed,
     Failed,
 }
 
+// What push's scope decision answers: the bits to store, or none.
 pub enum Bits {
     Granted(u32),
     Outside,
 }
 
-// Check 6: the bits to store or to read by.
-pub fn scope(asked: u32, given: u32) -> Bits
-    ensures { λ b. ⌜ b ≡ toldScope asked given ⌝ }
+fn fits(asked: u32, given: u32) -> bool
+    ensures { λ b. ⌜ b ≡ scopeFits asked given ⌝ }
 {
     if asked == 0 {
-        return Bits::Outside;
+        return false;
     }
-    if asked & given != asked {
-        return Bits::Outside;
+    asked & given == asked
+}
+
+// Check 6 of push, by the permitted bits.
+pub fn granted(asked: u32, permitted: u32) -> Bits
+    ensures { λ b. ⌜ b ≡ scopeDecision asked permitted ⌝ }
+{
+    if fits(asked, permitted) {
+        return Bits::Granted(asked);
     }
-    Bits::Granted(asked)
+    Bits::Outside
+}
+
+// Check 6 of resource, by the granted bits.
+pub fn within(asked: u32, granted: u32) -> Test
+    ensures { λ b. ⌜ b ≡ failsWhen (not (scopeFits asked granted)) ⌝ }
+{
+    if fits(asked, granted) {
+        return Test::Passed;
+    }
+    Test::Failed
 }
 
 // The redirect and the challenge of check 5.
-pub fn texts(redirect: &[u8], challenge: &[u8]) -> Told
-    ensures { λ b. ⌜ b ≡ toldTexts (now (redirect .entry)) (now (challenge .entry)) ⌝ }
+pub fn texts(redirect: &[u8], challenge: &[u8]) -> Test
+    ensures { λ b. ⌜ b ≡ textsTest (now (redirect .entry)) (now (challenge .entry)) ⌝ }
 {
     let Form::Well = Redirect::check(redirect) else {
-        return Told::Failed;
+        return Test::Failed;
     };
     let Form::Well = Challenge::check(challenge) else {
-        return Told::Failed;
+        return Test::Failed;
     };
-    Told::Passed
+    Test::Passed
 }
 
 // Check 9.
-pub fn number(next: u64) -> Told
-    ensures { λ b. ⌜ b ≡ toldIf (eqb next lastNumber) ⌝ }
+pub fn number(next: u64) -> Test
+    ensures { λ b. ⌜ b ≡ failsWhen (eqb next lastNumber) ⌝ }
 {
     if next == Grant::LAST {
-        return Told::Failed;
+        return Test::Failed;
     }
-    Told::Passed
+    Test::Passed
 }
 
-// Check 12, and the holder asked of check 19.
-pub fn given(holder: u64) -> Told
-    ensures { λ b. ⌜ b ≡ toldIf (eqb holder 0) ⌝ }
+// Check 12.
+pub fn given(holder: u64) -> Test
+    ensures { λ b. ⌜ b ≡ failsWhen (eqb holder 0) ⌝ }
 {
     if holder == 0 {
-        return Told::Failed;
+        return Test::Failed;
     }
-    Told::Passed
+    Test::Passed
 }
 
 // Check 13.
-pub fn key(presented: &[u8; 32]) -> Told
-    ensures { λ b. ⌜ b ≡ toldIf (zeros (now (presented .entry))) ⌝ }
+pub fn key(presented: &[u8; 32]) -> Test
+    ensures { λ b. ⌜ b ≡ failsWhen (zeros (now (presented .entry))) ⌝ }
 {
     if is_zero(presented) {
-        return Told::Failed;
+        return Test::Failed;
     }
-    Told::Passed
+    Test::Passed
 }
 
 // Check 15, of a record that check 14 found.
-pub fn unredeemed(r: &[u8]) -> Told
-    ensures { λ b. ⌜ b ≡ toldIf (inState Redeemed (now (r .entry))) ⌝ }
+pub fn unredeemed(r: &[u8]) -> Test
+    ensures { λ b. ⌜ b ≡ failsWhen (inState Redeemed (now (r .entry))) ⌝ }
 {
     if is_in(r, State::Redeemed) {
-        return Told::Failed;
+        return Test::Failed;
     }
-    Told::Passed
+    Test::Passed
 }
 
 // Check 18: it is the bound key that counts.
-pub fn bound(r: &[u8], presented: &[u8; 32]) -> Told
-    ensures { λ b. ⌜ b ≡ toldIf (not (same (boundKey (now (r .entry))) (now (presented .entry)))) ⌝ }
+pub fn bound(r: &[u8], presented: &[u8; 32]) -> Test
+    ensures { λ b. ⌜ b ≡ failsWhen (not (same (boundKey (now (r .entry))) (now (presented .entry)))) ⌝ }
 {
     if same(bound_key(r), presented) {
-        return Told::Passed;
+        return Test::Passed;
     }
-    Told::Failed
+    Test::Failed
 }
 
 // Check 19.
-pub fn held(r: &[u8], asked: u64) -> Told
-    ensures { λ b. ⌜ b ≡ toldIf (not (eqb (holder (now (r .entry))) asked)) ⌝ }
+pub fn held(r: &[u8], asked: u64) -> Test
+    ensures { λ b. ⌜ b ≡ failsWhen (not (eqb (holder (now (r .entry))) asked)) ⌝ }
 {
     if holder(r) == asked {
-        return Told::Passed;
+        return Test::Passed;
     }
-    Told::Failed
+    Test::Failed
 }
 
 // Check 20.
-pub fn room(out: &[u8]) -> Told
-    ensures { λ b. ⌜ b ≡ toldIf (ltb (length (now (out .entry))) outputLeast) ⌝ }
+pub fn room(out: &[u8]) -> Test
+    ensures { λ b. ⌜ b ≡ failsWhen (ltb (length (now (out .entry))) outputLeast) ⌝ }
 {
     if out.len() < Redirect::MOST {
-        return Told::Failed;
+        return Test::Failed;
     }
-    Told::Passed
+    Test::Passed
 }

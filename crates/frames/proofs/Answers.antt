@@ -1,13 +1,12 @@
--- Laws of an answer's bytes. Assumes nothing.
+-- Laws of an answer's bytes.
 use Prim.Native.Nat.{ℕ, _+_, _/_, _%_, _≤_}
 use native.Mathlib.Omega.{arith}
 use mathlib.Core.Path.{_≡_, ap, _∙_}
-use mathlib.Core.List.{List, [], _∷_, _++_, append-assoc}
-use lib.ListN.{length, take, drop, length-append, length-take, length-drop}
-use lib.Seq.{take-at}
+use mathlib.Core.List.{List, [], _∷_, _++_}
+use lib.ListN.{length, length-take, length-drop}
 use Rattle.octets.specs.Numbers.{digits}
-use Rattle.octets.specs.Parts.{blank, put, part}
-use Rattle.octets.proofs.Parts.{put-splice, part-length}
+use Rattle.octets.specs.Parts.{blank, part}
+use Rattle.octets.proofs.Parts.{part-length}
 use Rattle.desk.specs.declared.answer.Answer.{Answer}
 use Rattle.desk.specs.declared.answer.Decided.{Decided}
 use Rattle.desk.specs.declared.answer.Swept.{Swept}
@@ -15,7 +14,7 @@ use Rattle.desk.specs.Outcome.{Outcome, left, leftWith}
 use Rattle.desk.specs.Limits.{outputLeast}
 use Rattle.desk.specs.Requests.{DecideRequest}
 use Rattle.desk.specs.Decide.{decide}
-use Rattle.frames.specs.Answers.{answerBytes, decidedBytes, sweptBytes}
+use Rattle.wire.specs.Answers.{answerBytes, decidedBytes, sweptBytes}
 use Rattle.frames.specs.Serve.{written, ofOutcome, ofDecision, ofSweeping}
 
 -- two bytes hold a number's lowest sixteen bits
@@ -25,13 +24,6 @@ short-digits n =
     let a : n % 65536 / 256 % 256 ≡ n / 256 % 256 = omega arith in
     let b : n % 65536 % 256 ≡ n % 256 = omega arith in
     rw (a, b)
-
--- what is put behind the first a bytes
-pub put-front : (l : List ℕ) (a : ℕ) (xs y : List ℕ) → a + length xs ≤ length l → y ≡ put l a xs → take (a + length xs) y ≡ take a l ++ xs
-put-front l a xs y h e =
-    let n : length (take a l) ≡ a = simp length-take (omega arith) in
-    let k : length (take a l ++ xs) ≡ a + length xs = simp length-append (omega arith) in
-    rw (e, put-splice l a xs h, ← append-assoc (take a l) xs (drop (length xs) (drop a l))) (take-at (take a l ++ xs) (drop (length xs) (drop a l)) (a + length xs) k)
 
 -- a call's answer and ledger, as bytes
 pub by-outcome : {a : Answer} {l b : List ℕ} {o : Outcome Answer} → left a l ≡ o → b ≡ answerBytes a → written l b ≡ ofOutcome o
@@ -52,11 +44,6 @@ pub cut-length : (l : List ℕ) (a n : ℕ) (y : List ℕ) → y ≡ part l a n 
 cut-length l a n y e h = rw e (part-length l a n h)
 
 -- the fields of an answer, one behind the other
-pub answered : (a : Answer) {x1 x2 x3 x4 x5 g h s e : List ℕ} → x1 ≡ a .number ∷ [] → g ≡ digits 8 (a .grant) → x2 ≡ x1 ++ g → h ≡ digits 8 (a .holder)
-    → x3 ≡ x2 ++ h → s ≡ digits 4 (a .scope) → x4 ≡ x3 ++ s → e ≡ digits 8 (a .expiry) → x5 ≡ x4 ++ e → x5 ≡ answerBytes a
-unfolding answerBytes
-answered a e1 hg e2 hh e3 hs e4 he e5 = rw (e5, e4, e3, e2, e1, hg, hh, hs, he)
-
 pub counted : (a : Swept) {x1 x2 x3 x4 p c r : List ℕ} → x1 ≡ a .number ∷ [] → p ≡ digits 2 (a .pushed) → x2 ≡ x1 ++ p → c ≡ digits 2 (a .consented)
     → x3 ≡ x2 ++ c → r ≡ digits 2 (a .redeemed) → x4 ≡ x3 ++ r → x4 ≡ sweptBytes a
 unfolding sweptBytes

@@ -1,4 +1,4 @@
--- What a call is handed, cut out of its frame, is what the definitions say of the frame. Assumes nothing.
+-- What a call is handed, cut out of its frame, is what the definitions say of the frame.
 use Prim.Native.Nat.{ℕ}
 use mathlib.Core.Path.{_≡_, ap, _∙_}
 use mathlib.Core.List.{List}
@@ -12,7 +12,7 @@ use Rattle.desk.specs.Outcome.{Outcome}
 use Rattle.desk.specs.Push.{push}
 use Rattle.desk.specs.Decide.{decide}
 use Rattle.desk.specs.Token.{token}
-use Rattle.frames.specs.Calls.{time, pushRequest, decideRequest, tokenRequest}
+use Rattle.wire.specs.Calls.{time, pushRequest, decideRequest, tokenRequest}
 
 -- a number that is read from an index on
 pub read-at : (f : List ℕ) (a n : ℕ) {x : List ℕ} {v : ℕ} → x ≡ drop a f → v ≡ num (take n x) → v ≡ num (part f a n)

@@ -1,5 +1,5 @@
 -- "A line that is no frame (odd digits, no hex, empty, unknown kind, wrong length, a yes byte above 01, more than 640 digits) prints `ff` once and changes
--- nothing.": each of the reasons, what follows from every one, and that there is no other reason. Assumes nothing.
+-- nothing.": each of the reasons, what follows from every one, and that there is no other reason.
 use Prim.Native.Nat.{ℕ, zero, suc, _+_, _%_, _≤_, _<_}
 use native.Mathlib.Omega.{arith}
 use mathlib.Core.Path.{_≡_, refl, sym, _∙_}
@@ -8,14 +8,14 @@ use mathlib.Core.List.{List, []}
 use lib.Dec.{eqb, leb}
 use lib.ListN.{length, getD}
 use borrow.Author.Tests.{ne-eqb, le-leb, lt-leb, le-ltb, lt-ltb}
-use Rattle.octets.specs.Lists.{tabulate}
-use Rattle.frames.specs.declared.kind.Kind.the-variants.{NoFrame}
+use Rattle.wire.specs.declared.kind.Kind.the-variants.{NoFrame}
 use Rattle.frames.specs.Limits.{lineMost}
-use Rattle.frames.specs.Hex.{between, isDigit, digit, isHex, decoded}
-use Rattle.frames.specs.Kinds.{Row, start, decide, rows, width, fits, among, sworn, yesByte, kindOf, frameKind}
-use Rattle.frames.specs.Answers.{noFrame}
+use Rattle.texts.specs.Hex.{between, isDigit, digit, isHex, decoded}
+use Rattle.wire.specs.Kinds.{Row, start, decide, rows, width, fits, among, settled, yesByte, kindOf}
+use Rattle.frames.specs.Line.{frameKind}
+use Rattle.wire.specs.Answers.{noFrame}
 use Rattle.frames.specs.Serve.{Desk, served, serveLine}
-use Rattle.frames.proofs.Digits.{within, from-lower, digit-upper, digit-lower, hex-odd, hex-at}
+use Rattle.texts.proofs.Digits.{within, from-lower, digit-upper, digit-lower, hex-odd, hex-at}
 
 -- whatever the reason: `ff`, and nothing changes
 pub no-frame : (line : List ℕ) (d : Desk) → frameKind line ≡ NoFrame → serveLine line d ≡ served (d .ledger) (d .table) noFrame
@@ -51,7 +51,7 @@ module _ (line : List ℕ) where
       go false = refl
 
 pub empty-line : frameKind [] ≡ NoFrame
-unfolding frameKind isHex decoded tabulate kindOf among fits
+unfolding frameKind isHex decoded kindOf among fits
 empty-line = refl
 
 -- as long as its kind's fields
@@ -85,14 +85,14 @@ module _ (f : List ℕ) where
   unfolding kindOf
   yes-above e h = rw (kind-at 2 (omega arith) e) (go (sized decide f))
     where
-      go : (b : Bool) → sworn (cond b (decide .kind) NoFrame) f ≡ NoFrame
+      go : (b : Bool) → settled (cond b (decide .kind) NoFrame) f ≡ NoFrame
       go true = rw (lt-ltb 1 (yesByte f) h)
       go false = refl
 
 -- a line that has none of the reasons is the frame of its row
 module _ (line : List ℕ) (short : length line ≤ lineMost) (hex : isHex line ≡ true) where
   at-row : (i : ℕ) → i < 7 → getD (decoded line) 0 0 ≡ i → sized (getD rows i start) (decoded line) ≡ true
-      → frameKind line ≡ sworn (getD rows i start .kind) (decoded line)
+      → frameKind line ≡ settled (getD rows i start .kind) (decoded line)
   unfolding frameKind kindOf
   at-row i h e s = rw (le-leb (length line) lineMost short, hex, kind-at (decoded line) i h e, s)
 

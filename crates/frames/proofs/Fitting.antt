@@ -1,4 +1,4 @@
--- Laws of the buffers' sizes, and of an answer's line in the output. Assumes nothing.
+-- Laws of the buffers' sizes, and of an answer's line in the output.
 use Prim.Native.Nat.{ℕ, _+_, _*_, _≤_}
 use mathlib.Core.Path.{_≡_, sym, _∙_}
 use mathlib.Core.Bool.{true, false}
@@ -9,7 +9,7 @@ use borrow.Author.Tests.{leb-true, eqb-true}
 use Rattle.octets.specs.Parts.{laid}
 use Rattle.octets.proofs.Tests.{both}
 use Rattle.frames.specs.Limits.{ledgerMost, tableMost, answerLine}
-use Rattle.frames.specs.Hex.{lineOf}
+use Rattle.frames.specs.Line.{lineOf}
 use Rattle.frames.specs.Serve.{serveLine}
 use Rattle.frames.specs.Hold.{Fitting, deskIn, Placed, placed, place, said, say, fitting, answer}
 use Rattle.frames.proofs.Lines.{length-line}

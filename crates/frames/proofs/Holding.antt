@@ -1,4 +1,4 @@
--- Laws of a buffer whose front is in use: what a frame writes there, and what stays. Assumes nothing.
+-- Laws of a buffer whose front is in use: what a frame writes there, and what stays.
 use Prim.Native.Nat.{ℕ, _+_, _*_, _-_, _%_, _≤_, _<_}
 use native.Mathlib.Omega.{arith}
 use mathlib.Core.Path.{_≡_, sym, ap, _∙_}
@@ -13,15 +13,15 @@ use Rattle.ledger.specs.Sound.{sized}
 use Rattle.desk.specs.Answers.{done, numberOf}
 use Rattle.desk.specs.declared.answer.Refusal.the-variants.{LedgerUnsound, TableUnsound}
 use Rattle.desk.specs.Outcome.{Outcome, left}
-use Rattle.desk.specs.Start.{start, fresh}
-use Rattle.frames.specs.declared.kind.Kind.{Kind}
-use Rattle.frames.specs.Hex.{between}
-use Rattle.frames.specs.Kinds.{kindOf, least}
-use Rattle.frames.specs.Calls.{slotCount}
-use Rattle.frames.specs.Answers.{numberBytes, noFrame}
-use Rattle.frames.specs.Serve.{Desk, Written, written, Served, served, started, appended, onLedger, onTable, serve}
+use Rattle.desk.specs.Start.{start, emptyLedger}
+use Rattle.wire.specs.declared.kind.Kind.{Kind}
+use Rattle.texts.specs.Hex.{between}
+use Rattle.wire.specs.Kinds.{kindOf, least}
+use Rattle.wire.specs.Calls.{slotCount}
+use Rattle.wire.specs.Answers.{numberBytes, noFrame}
+use Rattle.frames.specs.Serve.{Desk, Written, written, Served, served, started, appended, onLedger, onTable, called, serve}
 use Rattle.frames.specs.Hold.{deskIn, Filled, filled, fill, Placed, placed, place}
-use Rattle.frames.proofs.Digits.{inside, below, above}
+use Rattle.texts.proofs.Digits.{inside, below, above}
 
 -- a front laid over its own buffer
 pub laid-front : (n : ℕ) (l : List ℕ) → n ≤ length l → laid (take n l) l ≡ l
@@ -62,9 +62,9 @@ module _ (f l : List ℕ) (n : ℕ) (within : n ≤ length l) where
   pub start-many : {s u : ℕ} {a : List ℕ} → s ≡ slotCount f → 200 < s → u ≡ n → a ≡ numberBytes (numberOf LedgerUnsound) → filled u l a ≡ fill (started f (take n l)) l
   start-many g h = few (above 1 200 (slotCount f) (rw g at h))
 
-pub length-fresh : (n : ℕ) → length (fresh n) ≡ n
-unfolding fresh
-length-fresh n = length-put _ 8 _ ∙ length-blank n
+pub length-fresh : (n : ℕ) → length (emptyLedger n) ≡ n
+unfolding emptyLedger
+length-emptyLedger n = length-put _ 8 _ ∙ length-blank n
 
 sized-of : (l : List ℕ) (s : ℕ) → 1 ≤ s → s ≤ 200 → length l ≡ 32 + s * 256 → sized l ≡ true
 unfolding sized
@@ -74,7 +74,7 @@ sized-of l s h k e =
     let c : (length l - 32) % 256 ≡ 0 = omega arith in
     rw (le-leb 288 (length l) a, le-leb (length l) 51232 b, eq-eqb ((length l - 32) % 256) 0 c)
 
-start-is : (l : List ℕ) → sized l ≡ true → start l ≡ left done (fresh (length l))
+start-is : (l : List ℕ) → sized l ≡ true → start l ≡ left done (emptyLedger (length l))
 unfolding start
 start-is l e = rw e
 
@@ -83,11 +83,11 @@ pub start-done : (f l : List ℕ) (m s : ℕ) {k : ℕ} {x a : List ℕ} → s �
 unfolding started fill
 start-done f l m s {k} {x} {a} g h i j e q =
     let n : length (take (32 + s * 256) l) ≡ 32 + s * 256 = length-take-le (32 + s * 256) l (omega arith) in
-    let b : left k x ≡ left done (fresh (32 + s * 256)) = e ∙ start-is (take (32 + s * 256) l) (sized-of (take (32 + s * 256) l) s h i n) ∙ ap (λ (v : ℕ). left done (fresh v)) n in
-    let c : x ≡ fresh (32 + s * 256) = ap (λ (o : Outcome ℕ). o .ledger) b in
+    let b : left k x ≡ left done (emptyLedger (32 + s * 256)) = e ∙ start-is (take (32 + s * 256) l) (sized-of (take (32 + s * 256) l) s h i n) ∙ ap (λ (v : ℕ). left done (emptyLedger v)) n in
+    let c : x ≡ emptyLedger (32 + s * 256) = ap (λ (o : Outcome ℕ). o .ledger) b in
     let d : k ≡ done = ap (λ (o : Outcome ℕ). o .answer) b in
-    let o = length-fresh (32 + s * 256) in
-    rw (← g, inside 1 200 s h i, q, d, c, o, laid-part l (fresh (32 + s * 256)) (32 + s * 256) o (omega arith))
+    let o = length-emptyLedger (32 + s * 256) in
+    rw (← g, inside 1 200 s h i, q, d, c, o, laid-part l (emptyLedger (32 + s * 256)) (32 + s * 256) o (omega arith))
 
 -- ---- a client's record
 
@@ -115,6 +115,9 @@ module _ (f t : List ℕ) (n : ℕ) (within : n ≤ length t) where
 
 pub least-of : {k j : Kind} {n : ℕ} → k ≡ j → least k ≤ n → least j ≤ n
 least-of {k} {j} {n} e h = rw e at h
+
+pub by-call : (k : Kind) (f l t : List ℕ) {j : Kind} {w : Written} → j ≡ k → w ≡ called k f l t → w ≡ called j f l t
+by-call k f l t {j} {w} e h = h ∙ ap (λ (i : Kind). called i f l t) (sym e)
 
 module _ (l t : List ℕ) (n m : ℕ) (used : n ≤ length l) (listed : m ≤ length t) where
   -- a frame that writes to the ledger, and one that writes to the table

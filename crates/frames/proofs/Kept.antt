@@ -1,4 +1,4 @@
--- A call keeps the length of the ledger, and a frame keeps ledger and table within the largest size. Assumes nothing.
+-- A call keeps the length of the ledger, and a frame keeps ledger and table within the largest size.
 use Prim.Native.Nat.{ℕ, zero, suc, _+_, _*_, _≤_, _<_}
 use native.Mathlib.Omega.{arith}
 use mathlib.Core.Path.{_≡_, refl}
@@ -25,20 +25,20 @@ use Rattle.desk.specs.Checks.{Check, _when_, Verdict, accepted, stopped, first}
 use Rattle.desk.specs.Requests.{PushRequest, DecideRequest, TokenRequest, ResourceRequest}
 use Rattle.desk.specs.Outcome.{Outcome, concludes}
 use Rattle.desk.specs.Push.{push, pushLeaves, pushChecks, pushAt, pushRecord}
-use Rattle.desk.specs.Decide.{decide, decideLeaves, decideChecks, decideAt, consentAt, declineAt, consentRecord, referenceAt}
-use Rattle.desk.specs.Token.{token, tokenChecks, tokenAt, tokenLeaves, tokenRecord, codeAt}
+use Rattle.desk.specs.Decide.{decide, decideLeaves, decideChecks, decideAt, consentAt, declineAt, consentRecord, referencePlace}
+use Rattle.desk.specs.Token.{token, tokenChecks, tokenAt, tokenLeaves, tokenRecord, codePlace}
 use Rattle.desk.specs.Resource.{resource, resourceBy, look}
 use Rattle.desk.specs.Sweep.{sweep, sweepChecks, sweepLeaves}
-use Rattle.frames.specs.declared.kind.Kind.{Kind}
-use Rattle.frames.specs.declared.kind.Kind.the-variants.{Start, Push, Decide, Token, Resource, Sweep, Client, NoFrame}
+use Rattle.wire.specs.declared.kind.Kind.{Kind}
+use Rattle.wire.specs.declared.kind.Kind.the-variants.{Start, Push, Decide, Token, Resource, Sweep, Client, NoFrame}
 use Rattle.frames.specs.Limits.{ledgerMost, tableMost}
-use Rattle.frames.specs.Hex.{between}
-use Rattle.frames.specs.Calls.{slotCount}
+use Rattle.texts.specs.Hex.{between}
+use Rattle.wire.specs.Calls.{slotCount}
 use Rattle.frames.specs.Serve as serving
-use Rattle.frames.specs.Answers.{numberBytes}
+use Rattle.wire.specs.Answers.{numberBytes}
 use Rattle.frames.specs.Serve.{Desk, Served, Written, written, serve, started, appended}
-use Rattle.desk.specs.Start.{fresh}
-use Rattle.frames.proofs.Digits.{within}
+use Rattle.desk.specs.Start.{emptyLedger}
+use Rattle.texts.proofs.Digits.{within}
 use Rattle.frames.proofs.Holding.{length-fresh}
 
 -- ---- all checks passed
@@ -87,11 +87,11 @@ module _ (l : List ℕ) (t : ℕ) (table : List ℕ) (p : PushRequest) where
       concluded (first (pushChecks l t table p)) l (pushLeaves l) (pushAt l t table p (place isFree (records l))) (λ why. refl) (λ e. push-at (place isFree (records l)) (push-inside e))
 
 module _ (l : List ℕ) (t : ℕ) (d : DecideRequest) (out : List ℕ) where
-  decide-inside : first (decideChecks l t d out (referenceAt l d)) ≡ accepted → referenceAt l d < slots l
+  decide-inside : first (decideChecks l t d out (referencePlace l d)) ≡ accepted → referencePlace l d < slots l
   unfolding decideChecks passing
   decide-inside e =
       inside (isReference (d .reference) (d .client)) l
-      (not-false (some (isReference (d .reference) (d .client)) (records l)) (passed (decideChecks l t d out (referenceAt l d)) 3 e))
+      (not-false (some (isReference (d .reference) (d .client)) (records l)) (passed (decideChecks l t d out (referencePlace l d)) 3 e))
 
   consent-record : (k : ℕ) → k < slots l → length (consentRecord t (d .holder) (d .fresh) (rec l k)) ≡ 256
   unfolding consentRecord consented
@@ -114,14 +114,14 @@ module _ (l : List ℕ) (t : ℕ) (d : DecideRequest) (out : List ℕ) where
   pub decide-length : length (decide l t d out .ledger) ≡ length l
   unfolding decide
   decide-length =
-      concluded (first (decideChecks l t d out (referenceAt l d))) l (decideLeaves l out) (decideAt l t d out (referenceAt l d)) (λ why. refl) (λ e. decide-at (referenceAt l d) (decide-inside e))
+      concluded (first (decideChecks l t d out (referencePlace l d))) l (decideLeaves l out) (decideAt l t d out (referencePlace l d)) (λ why. refl) (λ e. decide-at (referencePlace l d) (decide-inside e))
 
 module _ (l : List ℕ) (t : ℕ) (table : List ℕ) (q : TokenRequest) where
-  token-inside : first (tokenChecks l t table q (codeAt l q)) ≡ accepted → codeAt l q < slots l
+  token-inside : first (tokenChecks l t table q (codePlace l q)) ≡ accepted → codePlace l q < slots l
   unfolding tokenChecks passing
   token-inside e =
       inside (isCode (q .code) (q .client)) l
-      (not-false (some (isCode (q .code) (q .client)) (records l)) (passed (tokenChecks l t table q (codeAt l q)) 6 e))
+      (not-false (some (isCode (q .code) (q .client)) (records l)) (passed (tokenChecks l t table q (codePlace l q)) 6 e))
 
   token-record : (k : ℕ) → k < slots l → length (tokenRecord t q (rec l k)) ≡ 256
   unfolding tokenRecord redeemed
@@ -134,7 +134,7 @@ module _ (l : List ℕ) (t : ℕ) (table : List ℕ) (q : TokenRequest) where
   pub token-length : length (token l t table q .ledger) ≡ length l
   unfolding token
   token-length =
-      concluded (first (tokenChecks l t table q (codeAt l q))) l (tokenLeaves l) (tokenAt l t q (codeAt l q)) (λ why. refl) (λ e. token-at (codeAt l q) (token-inside e))
+      concluded (first (tokenChecks l t table q (codePlace l q))) l (tokenLeaves l) (tokenAt l t q (codePlace l q)) (λ why. refl) (λ e. token-at (codePlace l q) (token-inside e))
 
 by-reading : (r : Reading) (l : List ℕ) (t : ℕ) → length (resourceBy r l t .ledger) ≡ length l
 by-reading (Granted a) l t = simp length-put
@@ -161,8 +161,8 @@ by-test false v w n f g = g
 started-fits : (f l : List ℕ) → length l ≤ ledgerMost → length (started f l .bytes) ≤ ledgerMost
 unfolding started
 started-fits f l h =
-    by-test (between 1 200 (slotCount f)) (written (fresh (32 + slotCount f * 256)) (numberBytes 0)) (written l (numberBytes 1)) ledgerMost
-    (λ e. let w = within 1 200 (slotCount f) e in let n = length-fresh (32 + slotCount f * 256) in omega arith) h
+    by-test (between 1 200 (slotCount f)) (written (emptyLedger (32 + slotCount f * 256)) (numberBytes 0)) (written l (numberBytes 1)) ledgerMost
+    (λ e. let w = within 1 200 (slotCount f) e in let n = length-emptyLedger (32 + slotCount f * 256) in omega arith) h
 
 appended-fits : (f t : List ℕ) → length t ≤ tableMost → length (appended f t .bytes) ≤ tableMost
 unfolding appended

@@ -1,5 +1,4 @@
 -- The laws of frames and their answers, of ledger and table in their buffers, and of the sizes that a frame keeps.
-pub mod Digits
 pub mod Lines
 pub mod Fits
 pub mod Answers

@@ -1,21 +1,15 @@
--- Laws of bytes in hexadecimal and of a line over the front of a buffer. Assumes nothing.
-use Prim.Native.Nat.{ℕ, suc, _+_, _*_, _≤_, _<_}
+-- Laws of a line: the frame that is read from it, and the answer's, written over the front of a buffer.
+use Prim.Native.Nat.{ℕ, suc, _+_, _*_, _/_, _≤_, _<_}
 use native.Mathlib.Omega.{arith}
 use mathlib.Core.Path.{_≡_, sym}
+use mathlib.Core.Bool.{true}
 use mathlib.Core.List.{List, [], _∷_, _++_, append-assoc}
-use lib.ListN.{length, getD, drop, set, length-append}
-use lib.Seq.{take-all, drop-cons, set-append-seam}
-use Rattle.octets.specs.Parts.{laid}
-use Rattle.octets.proofs.Tabulate.{length-tabulate, getD-tabulate}
-use Rattle.frames.specs.Hex.{glyphAt, hex, lineOf, lineEnd}
-
-pub length-hex : (bs : List ℕ) → length (hex bs) ≡ 2 * length bs
-unfolding hex
-length-hex bs = length-tabulate (glyphAt bs) (2 * length bs)
-
-pub hex-glyph : (bs : List ℕ) (j : ℕ) → j < 2 * length bs → getD (hex bs) j 0 ≡ glyphAt bs j
-unfolding hex
-hex-glyph bs j h = getD-tabulate (glyphAt bs) 0 (2 * length bs) j h
+use lib.ListN.{length, getD, take, drop, set, length-append}
+use lib.Seq.{take-all, drop-cons, set-append-seam, take-append-seam}
+use Rattle.octets.specs.Parts.{laid, put}
+use Rattle.texts.specs.Hex.{isHex, decoded, decodedOver, hex}
+use Rattle.texts.proofs.Hexes.{length-hex, length-decoded, over-hex}
+use Rattle.frames.specs.Line.{lineOf, lineEnd}
 
 pub length-line : (bs : List ℕ) → length (lineOf bs) ≡ 2 * length bs + 1
 unfolding lineOf
@@ -32,8 +26,17 @@ laid-snoc xs d v h =
     (sym (append-assoc xs (v ∷ []) (drop (suc (length xs)) d)))
 
 -- an answer's line: its digits, and the end of the line behind them
-pub written : (bs d y : List ℕ) → 2 * length bs + 1 ≤ length d → y ≡ laid (hex bs) d → set y (2 * length bs) lineEnd ≡ laid (lineOf bs) d
-unfolding lineOf
-written bs d y h e =
+pub written : (bs d : List ℕ) {y : List ℕ} {n : ℕ} → 2 * length bs + 1 ≤ length d → n ≡ length (hex bs) → y ≡ put d 0 (hex bs)
+    → set y n lineEnd ≡ laid (lineOf bs) d
+unfolding lineOf put
+written bs d h e f =
     let n = length-hex bs in
-    rw (e, ← n) (laid-snoc (hex bs) d lineEnd (omega arith))
+    rw (e, f) (laid-snoc (hex bs) d lineEnd (omega arith))
+
+-- the bytes of a line, read into a buffer that has room for them
+pub front-decoded : (t s : List ℕ) {y : List ℕ} → isHex t ≡ true → length t ≤ 2 * length s → y ≡ decodedOver t s → take (length t / 2) y ≡ decoded t
+unfolding laid
+front-decoded t s h k e =
+    let n = length-decoded t in
+    let m : length (decoded t) ≤ length s = omega arith in
+    rw (e, over-hex t s h, take-all (length s) (decoded t) m, ← n) (take-append-seam (decoded t) (drop (length (decoded t)) s))

@@ -7,7 +7,7 @@ use lib.Dec.{eqb, leb}
 use lib.ListN.{length, take}
 use Rattle.octets.specs.Parts.{laid}
 use Rattle.frames.specs.Limits.{ledgerMost, tableMost, answerLine}
-use Rattle.frames.specs.Hex.{lineOf}
+use Rattle.frames.specs.Line.{lineOf}
 use Rattle.frames.specs.Serve.{Desk, Written, Served, serveLine}
 
 -- buffers of the largest size, and lengths within them

@@ -2,7 +2,7 @@
 use Prim.Native.Nat.{ℕ, _+_, _*_}
 use Rattle.ledger.specs.Limits.{headSize, recordSize, recordsMost}
 use Rattle.clients.specs.Limits.{clientSize, clientsMost}
-use Rattle.desk.specs.Limits.{outputLeast}
+use Rattle.wire.specs.Answers.{answerMost}
 
 -- "more than 640 digits" is no frame
 abbrev pub lineMost : ℕ
@@ -19,10 +19,6 @@ ledgerMost = headSize + recordsMost * recordSize
 abbrev pub tableMost : ℕ
 tableMost = clientsMost * clientSize
 
--- the longest answer, that of 02: "number(1) grant(8) holder(8) scope(4) expiry(8) .. length(1) and that many redirect bytes"
-abbrev pub answerMost : ℕ
-answerMost = 1 + 8 + 8 + 4 + 8 + 1 + outputLeast
-
--- its line: two digits a byte, and the end of the line
+-- the line of the longest answer: two digits a byte, and the end of the line
 abbrev pub answerLine : ℕ
 answerLine = 2 * answerMost + 1

@@ -13,20 +13,21 @@ use Rattle.desk.specs.declared.answer.Answer.{Answer}
 use Rattle.desk.specs.declared.answer.Decided.{Decided}
 use Rattle.desk.specs.declared.answer.Swept.{Swept}
 use Rattle.desk.specs.declared.answer.Refusal.the-variants.{LedgerUnsound, TableUnsound}
-use Rattle.desk.specs.Start.{fresh}
+use Rattle.desk.specs.Start.{emptyLedger}
 use Rattle.desk.specs.Outcome.{Outcome}
 use Rattle.desk.specs.Push.{push}
 use Rattle.desk.specs.Decide.{decide}
 use Rattle.desk.specs.Token.{token}
 use Rattle.desk.specs.Resource.{resource}
 use Rattle.desk.specs.Sweep.{sweep}
-use Rattle.frames.specs.declared.kind.Kind.{Kind}
-use Rattle.frames.specs.declared.kind.Kind.the-variants.{Start, Push, Decide, Token, Resource, Sweep, Client, NoFrame}
+use Rattle.wire.specs.declared.kind.Kind.{Kind}
+use Rattle.wire.specs.declared.kind.Kind.the-variants.{Start, Push, Decide, Token, Resource, Sweep, Client, NoFrame}
+use Rattle.texts.specs.Hex.{between, decoded}
 use Rattle.frames.specs.Limits.{tableMost}
-use Rattle.frames.specs.Hex.{between, decoded}
-use Rattle.frames.specs.Kinds.{client, field, frameKind}
-use Rattle.frames.specs.Calls.{time, slotCount, pushRequest, decideRequest, tokenRequest, resourceRequest}
-use Rattle.frames.specs.Answers.{numberBytes, sweptBytes, answerBytes, decidedBytes, noFrame}
+use Rattle.frames.specs.Line.{frameKind}
+use Rattle.wire.specs.Kinds.{client, field}
+use Rattle.wire.specs.Calls.{time, slotCount, pushRequest, decideRequest, tokenRequest, resourceRequest}
+use Rattle.wire.specs.Answers.{numberBytes, sweptBytes, answerBytes, decidedBytes, noFrame}
 
 -- what the program keeps from line to line
 pub record Desk : Type 0 where
@@ -78,13 +79,24 @@ read f l = ofOutcome (resource l (time f) (resourceRequest f))
 unfoldable pub swept : List ℕ → List ℕ → Written
 swept f l = ofSweeping (sweep l (time f))
 
+-- the call that a kind names; one that names none does nothing
+abbrev pub called : Kind → List ℕ → List ℕ → List ℕ → Written
+called Push f l t = pushed f l t
+called Decide f l t = decided f l
+called Token f l t = redeemed f l t
+called Resource f l t = read f l
+called Sweep f l t = swept f l
+called Start f l t = written l []
+called Client f l t = written l []
+called NoFrame f l t = written l []
+
 -- "A slot count of 0 or above 200 prints 01 and keeps the old ledger."
 abbrev pub ledgerSize : ℕ → ℕ
 ledgerSize n = headSize + n * recordSize
 
 unfoldable pub started : List ℕ → List ℕ → Written
 started f l =
-    cond (between recordsLeast recordsMost (slotCount f)) (written (fresh (ledgerSize (slotCount f))) (numberBytes done))
+    cond (between recordsLeast recordsMost (slotCount f)) (written (emptyLedger (ledgerSize (slotCount f))) (numberBytes done))
     (written l (numberBytes (numberOf LedgerUnsound)))
 
 -- "06 checks only for room and otherwise appends and prints 00"; "A 65th client prints 03 and is not appended."
@@ -102,11 +114,11 @@ onTable w d = served (d .ledger) (w .bytes) (w .answer)
 -- by the kind of frame; what is no frame "changes nothing"
 abbrev pub serve : Kind → List ℕ → Desk → Served
 serve Start f d = onLedger (started f (d .ledger)) d
-serve Push f d = onLedger (pushed f (d .ledger) (d .table)) d
-serve Decide f d = onLedger (decided f (d .ledger)) d
-serve Token f d = onLedger (redeemed f (d .ledger) (d .table)) d
-serve Resource f d = onLedger (read f (d .ledger)) d
-serve Sweep f d = onLedger (swept f (d .ledger)) d
+serve Push f d = onLedger (called Push f (d .ledger) (d .table)) d
+serve Decide f d = onLedger (called Decide f (d .ledger) (d .table)) d
+serve Token f d = onLedger (called Token f (d .ledger) (d .table)) d
+serve Resource f d = onLedger (called Resource f (d .ledger) (d .table)) d
+serve Sweep f d = onLedger (called Sweep f (d .ledger) (d .table)) d
 serve Client f d = onTable (appended f (d .table)) d
 serve NoFrame f d = served (d .ledger) (d .table) noFrame
 

@@ -5,16 +5,14 @@ ghost use mathlib.Core.List.{_++_};
 ghost use lib.ListN.{length, take};
 ghost use Rattle.octets.specs.Numbers.{digits};
 ghost use Rattle.desk.specs.Limits.{outputLeast};
-ghost use Rattle.frames.specs.Limits.{answerMost};
-ghost use Rattle.frames.specs.Answers.{numberBytes, sweptBytes, answerBytes, decidedBytes};
+ghost use Rattle.wire.specs.Answers.{answerSize, answerMost, numberBytes, sweptBytes, answerBytes, decidedBytes};
 use desk::answer::Answer;
 use desk::answer::Decided;
 use desk::answer::Swept;
 use octets::number::bytes16;
-use octets::number::bytes32;
-use octets::number::bytes64;
 use octets::part::cut;
 use octets::part::put;
+use wire::answer::bytes;
 
 // Puts xs behind the first `at` bytes, and answers where it ends.
 fn append(out: &mut [u8], at: usize, xs: &[u8]) -> usize
@@ -34,13 +32,9 @@ pub fn write_number(out: &mut [u8], n: u8) -> usize
 
 pub fn write_answer(out: &mut [u8], a: Answer) -> usize
     requires { ⌜ length (now out) ≡ answerMost ⌝ }
-    ensures { λ r. ⌜ (r ≡ 29) × (take r (now (out .exit)) ≡ answerBytes a) ⌝ }
+    ensures { λ r. ⌜ (r ≡ answerSize) × (take r (now (out .exit)) ≡ answerBytes a) ⌝ }
 {
-    let number = append(out, 0, &[a.number]);
-    let grant = append(out, number, &bytes64(a.grant));
-    let holder = append(out, grant, &bytes64(a.holder));
-    let scope = append(out, holder, &bytes32(a.scope));
-    append(out, scope, &bytes64(a.expiry))
+    append(out, 0, &bytes(a))
 }
 
 pub fn long(n: u8) -> usize

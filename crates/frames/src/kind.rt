@@ -1,178 +1,136 @@
-// The kinds of frames: each with its byte, and the places of its fields.
+// What each kind of frame does to ledger and table, which lie at the front of their buffers: n and m bytes of them are in use.
 ghost use mathlib.Core.Path.{_≡_};
-ghost use mathlib.Core.Bool.{true};
 ghost use Prim.Native.Nat.{_≤_, _<_};
-ghost use lib.ListN.{length};
-ghost use Rattle.frames.specs.Kinds.{fits, swornYes, kindOf, least};
+ghost use lib.ListN.{length, take};
+ghost use Rattle.desk.specs.Answers.{numberOf};
+ghost use Rattle.desk.specs.declared.answer.Refusal.the-variants.{LedgerUnsound};
+ghost use Rattle.wire.specs.Answers.{answerMost, numberBytes};
+ghost use Rattle.wire.specs.Kinds.{kindOf, least, width};
+ghost use Rattle.wire.specs.Kinds.{start as startRow, client as clientRow};
+ghost use Rattle.frames.specs.Limits.{ledgerMost, tableMost};
+ghost use Rattle.frames.specs.Serve.{called, serve, started, appended, onLedger};
+ghost use Rattle.frames.specs.Hold.{Fitting, deskIn, filled, fill, placed, place};
+use super::answer::long;
+use super::answer::write_number;
+use super::call::call;
+use super::limit::Buffer;
+use super::served::Served;
+use clients::record::Client as Record;
+use desk::answer::Answer;
+use desk::answer::Refusal;
+use ledger::limit::Ledger;
+use octets::part::cut;
+use octets::part::put;
+use wire::answer::Said;
+use wire::kind::Client;
+use wire::kind::Kind;
+use wire::kind::Start;
+use wire::kind::kind_of;
 
-pub enum Kind {
-    Start,
-    Push,
-    Decide,
-    Token,
-    Resource,
-    Sweep,
-    Client,
-    NoFrame,
+// A buffer afterwards: how much of it is in use, and the number of the answer's bytes.
+struct Used {
+    used: usize,
+    count: usize,
 }
 
-pub struct Start {}
-
-impl Start {
-    pub const BYTE: u8 = 0;
-
-    pub const SLOTS: usize = 1;
-
-    pub const WIDTH: usize = 2;
-}
-
-pub struct Push {}
-
-impl Push {
-    pub const BYTE: u8 = 1;
-
-    pub const TIME: usize = 1;
-
-    pub const CLIENT: usize = 9;
-
-    pub const KEY: usize = 25;
-
-    pub const SCOPE: usize = 57;
-
-    pub const CHALLENGE: usize = 61;
-
-    pub const FRESH: usize = 104;
-
-    pub const WIDTH: usize = 136;
-}
-
-pub struct Decide {}
-
-impl Decide {
-    pub const BYTE: u8 = 2;
-
-    pub const TIME: usize = 1;
-
-    pub const CLIENT: usize = 9;
-
-    pub const REFERENCE: usize = 25;
-
-    pub const YES: usize = 57;
-
-    pub const HOLDER: usize = 58;
-
-    pub const FRESH: usize = 66;
-
-    pub const WIDTH: usize = 98;
-}
-
-pub struct Token {}
-
-impl Token {
-    pub const BYTE: u8 = 3;
-
-    pub const TIME: usize = 1;
-
-    pub const CLIENT: usize = 9;
-
-    pub const KEY: usize = 25;
-
-    pub const PRESENTED: usize = 57;
-
-    pub const CODE: usize = 89;
-
-    pub const FRESH: usize = 121;
-
-    pub const WIDTH: usize = 153;
-}
-
-pub struct Resource {}
-
-impl Resource {
-    pub const BYTE: u8 = 4;
-
-    pub const TIME: usize = 1;
-
-    pub const TOKEN: usize = 9;
-
-    pub const KEY: usize = 41;
-
-    pub const SCOPE: usize = 73;
-
-    pub const HOLDER: usize = 77;
-
-    pub const WIDTH: usize = 85;
-}
-
-pub struct Sweep {}
-
-impl Sweep {
-    pub const BYTE: u8 = 5;
-
-    pub const TIME: usize = 1;
-
-    pub const WIDTH: usize = 9;
-}
-
-pub struct Client {}
-
-impl Client {
-    pub const BYTE: u8 = 6;
-
-    pub const RECORD: usize = 1;
-
-    pub const WIDTH: usize = 65;
-}
-
-fn fits(f: &[u8], byte: u8, width: usize, rest: bool) -> bool
-    requires { ⌜ 0 < width ⌝ }
-    ensures { λ r. ⌜ r ≡ fits byte width rest (now (f .entry)) ⌝ }
+fn refuse_start(kept: usize, out: &mut [u8]) -> Used
+    requires { ⌜ length (now out) ≡ answerMost ⌝ }
+    ensures { λ r. ⌜ (r .used ≡ kept) × ((r .count ≤ answerMost) × (take (r .count) (now (out .exit)) ≡ numberBytes (numberOf LedgerUnsound))) ⌝ }
 {
-    if f.len() < width {
-        return false;
+    let count = write_number(out, Refusal::LedgerUnsound.number());
+    Used {
+        used: kept,
+        count: count,
     }
-    if f[0] != byte {
-        return false;
-    }
-    if rest {
-        return true;
-    }
-    f.len() == width
 }
 
-// "a yes byte above 01" is no frame.
-fn sworn(yes: u8) -> Kind
-    ensures { λ r. ⌜ r ≡ swornYes yes ⌝ }
+// Start, in the front of the ledger's buffer.
+fn start(f: &[u8], used: usize, ledger: &mut [u8], out: &mut [u8]) -> Used
+    requires { ⌜ (width startRow ≤ length (now f)) × ((used ≤ ledgerMost) × ((length (now ledger) ≡ ledgerMost) × (length (now out) ≡ answerMost))) ⌝ }
+    ensures { λ r. ⌜ (r .count ≤ answerMost) × (filled (r .used) (now (ledger .exit)) (take (r .count) (now (out .exit))) ≡ fill (started (now (f .entry)) (take used (now (ledger .entry)))) (now (ledger .entry))) ⌝ }
 {
-    if 1 < yes {
-        return Kind::NoFrame;
+    let slots = long(f[Start::SLOTS]);
+    if slots < Ledger::LEAST {
+        return refuse_start(used, out);
     }
-    Kind::Decide
+    if Ledger::MOST < slots {
+        return refuse_start(used, out);
+    }
+    let n = Ledger::HEAD + slots * Ledger::RECORD;
+    let number = start::start(&mut ledger[..n]);
+    let count = write_number(out, number);
+    Used {
+        used: n,
+        count: count,
+    }
 }
 
-pub fn kind_of(f: &[u8]) -> Kind
-    ensures { λ r. ⌜ (r ≡ kindOf (now (f .entry))) × (least r ≤ length (now (f .entry))) ⌝ }
+// A client's record, behind those in the front of the table's buffer.
+fn append(f: &[u8], used: usize, table: &mut [u8], out: &mut [u8]) -> Used
+    requires { ⌜ (width clientRow ≤ length (now f)) × ((used ≤ tableMost) × ((length (now table) ≡ tableMost) × (length (now out) ≡ answerMost))) ⌝ }
+    ensures { λ r. ⌜ (r .count ≤ answerMost) × (filled (r .used) (now (table .exit)) (take (r .count) (now (out .exit))) ≡ fill (appended (now (f .entry)) (take used (now (table .entry)))) (now (table .entry))) ⌝ }
 {
-    if fits(f, Start::BYTE, Start::WIDTH, false) {
-        return Kind::Start;
+    if Buffer::TABLE < used + Record::SIZE {
+        let count = write_number(out, Refusal::TableUnsound.number());
+        return Used {
+            used: used,
+            count: count,
+        };
     }
-    if fits(f, Push::BYTE, Push::WIDTH, true) {
-        return Kind::Push;
+    put(table, used, cut(f, Client::RECORD, Record::SIZE));
+    let count = write_number(out, Answer::DONE);
+    Used {
+        used: used + Record::SIZE,
+        count: count,
     }
-    if fits(f, Decide::BYTE, Decide::WIDTH, false) {
-        return sworn(f[Decide::YES]);
+}
+
+// A call, in the front of the ledger's buffer.
+fn on_ledger(
+    kind: Kind,
+    f: &[u8],
+    n: usize,
+    m: usize,
+    ledger: &mut [u8],
+    table: &[u8],
+    out: &mut [u8],
+) -> Served
+    requires { ⌜ (least kind ≤ length (now f)) × ((Fitting n m (now ledger) (now table)) × (length (now out) ≡ answerMost)) ⌝ }
+    ensures { λ r. ⌜ (r .count ≤ answerMost) × (placed (r .ledger) (r .table) (now (ledger .exit)) (now (table .entry)) (take (r .count) (now (out .exit))) ≡ place (onLedger (called kind (now (f .entry)) (take n (now (ledger .entry))) (take m (now (table .entry)))) (deskIn n m (now (ledger .entry)) (now (table .entry)))) (now (ledger .entry)) (now (table .entry))) ⌝ }
+{
+    let count = call(kind, f, &mut ledger[..n], &table[..m], out);
+    Served::with(n, m, count)
+}
+
+// A frame, with n bytes of the ledger's buffer and m of the table's in use.
+pub fn serve(
+    f: &[u8],
+    n: usize,
+    m: usize,
+    ledger: &mut [u8],
+    table: &mut [u8],
+    out: &mut [u8],
+) -> Served
+    requires { ⌜ (Fitting n m (now ledger) (now table)) × (length (now out) ≡ answerMost) ⌝ }
+    ensures { λ r. ⌜ (r .count ≤ answerMost) × (placed (r .ledger) (r .table) (now (ledger .exit)) (now (table .exit)) (take (r .count) (now (out .exit))) ≡ place (serve (kindOf (now (f .entry))) (now (f .entry)) (deskIn n m (now (ledger .entry)) (now (table .entry)))) (now (ledger .entry)) (now (table .entry))) ⌝ }
+{
+    match kind_of(f) {
+        Kind::Start => {
+            let w = start(f, n, ledger, out);
+            Served::with(w.used, m, w.count)
+        }
+        Kind::Push => on_ledger(Kind::Push, f, n, m, ledger, table, out),
+        Kind::Decide => on_ledger(Kind::Decide, f, n, m, ledger, table, out),
+        Kind::Token => on_ledger(Kind::Token, f, n, m, ledger, table, out),
+        Kind::Resource => on_ledger(Kind::Resource, f, n, m, ledger, table, out),
+        Kind::Sweep => on_ledger(Kind::Sweep, f, n, m, ledger, table, out),
+        Kind::Client => {
+            let w = append(f, m, table, out);
+            Served::with(n, w.used, w.count)
+        }
+        Kind::NoFrame => {
+            let count = write_number(out, Said::NO_FRAME);
+            Served::with(n, m, count)
+        }
     }
-    if fits(f, Token::BYTE, Token::WIDTH, true) {
-        return Kind::Token;
-    }
-    if fits(f, Resource::BYTE, Resource::WIDTH, false) {
-        return Kind::Resource;
-    }
-    if fits(f, Sweep::BYTE, Sweep::WIDTH, false) {
-        return Kind::Sweep;
-    }
-    if fits(f, Client::BYTE, Client::WIDTH, false) {
-        return Kind::Client;
-    }
-    Kind::NoFrame
 }

@@ -1,10 +1,8 @@
-// Frames: a line of the line program, on slices (document 01, section "The line program"): hexadecimal, which lines are frames, what a frame does to ledger
-// and table, and its answer's line. It rests on desk, ledger, clients and octets, and serves demand 1.
+// Frames: a line of the line program, on slices (document 01, section "The line program"): one way down, a line is a kind, a kind is a call, and up again its
+// answer's line. It rests on the six calls, on wire for frames and answers, on texts for hexadecimal, and serves demand 1.
 mod answer;
 mod call;
-mod front;
-mod hex;
 mod kind;
 pub mod limit;
 pub mod line;
-mod serve;
+pub mod served;

@@ -1,6 +1,6 @@
 // The sizes of the line program, each a constant of what it belongs to; a function beside it ties it to its definition.
 ghost use mathlib.Core.Path.{_≡_};
-ghost use Rattle.frames.specs.Limits.{lineMost, lineKept, ledgerMost, tableMost, answerMost, answerLine};
+ghost use Rattle.frames.specs.Limits.{lineMost, lineKept, ledgerMost, tableMost, answerLine};
 
 pub struct Line {}
 
@@ -50,24 +50,14 @@ impl Buffer {
     }
 }
 
-pub struct Said {}
+pub struct Answer {}
 
-impl Said {
-    pub const MOST: usize = 94;
-
+impl Answer {
     pub const LINE: usize = 189;
-
-    pub const NO_FRAME: u8 = 0xff;
-
-    pub fn most() -> usize
-        ensures { λ r. ⌜ r ≡ answerMost ⌝ }
-    {
-        Said::MOST
-    }
 
     pub fn line() -> usize
         ensures { λ r. ⌜ r ≡ answerLine ⌝ }
     {
-        Said::LINE
+        Answer::LINE
     }
 }

@@ -1,72 +1,30 @@
-// A line of the input: what its frame does, by its kind.
+// A line of the input: hexadecimal, a frame, and its answer's line.
 ghost use mathlib.Core.Path.{_≡_};
-ghost use Prim.Native.Nat.{_≤_, _<_};
+ghost use Prim.Native.Nat.{_+_, _*_, _≤_, _<_};
 ghost use lib.ListN.{length, take};
-ghost use Rattle.frames.specs.Limits.{answerMost, answerLine};
-ghost use Rattle.frames.specs.Kinds.{kindOf};
-ghost use Rattle.frames.specs.Serve.{serve, serveLine};
+ghost use Rattle.octets.specs.Parts.{laid};
+ghost use Rattle.wire.specs.Answers.{answerMost};
+ghost use Rattle.frames.specs.Limits.{answerLine};
+ghost use Rattle.frames.specs.Line.{lineOf};
+ghost use Rattle.frames.specs.Serve.{serveLine};
 ghost use Rattle.frames.specs.Hold.{Fitting, deskIn, placed, place, fitting, said, say, answer};
 use super::answer::write_number;
-use super::front;
-use super::hex::decode;
-use super::hex::is_hex;
-use super::hex::write_line;
-use super::kind::Kind;
-use super::kind::kind_of;
+use super::kind::serve;
+use super::limit::Answer;
 use super::limit::Buffer;
+use super::limit::Frame;
 use super::limit::Line;
-use super::limit::Said;
+use super::served::Served;
+use texts::hex::decode;
+use wire::answer::Said;
 
-// What is served: the lengths in use of ledger and table, and the number of the answer's bytes.
-pub struct Served {
-    pub ledger: usize,
-    pub table: usize,
-    pub count: usize,
-}
-
-impl Served {
-    pub fn with(ledger: usize, table: usize, count: usize) -> Served
-        ensures { λ r. ⌜ (r .ledger ≡ ledger) × ((r .table ≡ table) × (r .count ≡ count)) ⌝ }
-    {
-        Served {
-            ledger: ledger,
-            table: table,
-            count: count,
-        }
-    }
-}
-
-// A frame, with n bytes of the ledger's buffer and m of the table's in use.
-fn serve(
-    f: &[u8],
-    n: usize,
-    m: usize,
-    ledger: &mut [u8],
-    table: &mut [u8],
-    out: &mut [u8],
-) -> Served
-    requires { ⌜ (Fitting n m (now ledger) (now table)) × (length (now out) ≡ answerMost) ⌝ }
-    ensures { λ r. ⌜ (r .count ≤ answerMost) × (placed (r .ledger) (r .table) (now (ledger .exit)) (now (table .exit)) (take (r .count) (now (out .exit))) ≡ place (serve (kindOf (now (f .entry))) (now (f .entry)) (deskIn n m (now (ledger .entry)) (now (table .entry)))) (now (ledger .entry)) (now (table .entry))) ⌝ }
+// An answer's line, over the front of the output.
+fn write_line(out: &mut [u8], bytes: &[u8])
+    requires { ⌜ 2 * length (now bytes) + 1 ≤ length (now out) ⌝ }
+    ensures { λ _. ⌜ now (out .exit) ≡ laid (lineOf (now (bytes .entry))) (now (out .entry)) ⌝ }
 {
-    match kind_of(f) {
-        Kind::Start => {
-            let w = front::start(f, n, ledger, out);
-            Served::with(w.used, m, w.count)
-        }
-        Kind::Push => front::push(f, n, m, ledger, table, out),
-        Kind::Decide => front::decide(f, n, m, ledger, table, out),
-        Kind::Token => front::token(f, n, m, ledger, table, out),
-        Kind::Resource => front::resource(f, n, m, ledger, table, out),
-        Kind::Sweep => front::sweep(f, n, m, ledger, table, out),
-        Kind::Client => {
-            let w = front::append(f, m, table, out);
-            Served::with(n, w.used, w.count)
-        }
-        Kind::NoFrame => {
-            let count = write_number(out, Said::NO_FRAME);
-            Served::with(n, m, count)
-        }
-    }
+    let end = texts::hex::write(out, 0, bytes);
+    out[end] = Line::END;
 }
 
 // A line of the input: what is no line of hexadecimal, or too long, is no frame.
@@ -85,11 +43,11 @@ fn serve_line(
         let count = write_number(out, Said::NO_FRAME);
         return Served::with(n, m, count);
     }
-    if !is_hex(line) {
+    let mut bytes = [0u8; Frame::MOST];
+    if !decode(&mut bytes, line) {
         let count = write_number(out, Said::NO_FRAME);
         return Served::with(n, m, count);
     }
-    let bytes = decode(line);
     let end = line.len() / 2;
     serve(&bytes[..end], n, m, ledger, table, out)
 }
@@ -129,7 +87,7 @@ fn fitting(n: usize, m: usize, ledger: &[u8], table: &[u8], out: &[u8]) -> bool
     if table.len() != Buffer::TABLE {
         return false;
     }
-    Said::LINE <= out.len()
+    Answer::LINE <= out.len()
 }
 
 // A line of the input in its buffers: n bytes of the ledger's and m of the table's are in use. What does not fit is not served, and nothing changes.

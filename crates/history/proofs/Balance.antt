@@ -15,13 +15,13 @@ use Rattle.ledger.specs.Sweep.{sweptRecord}
 use Rattle.upkeep.proofs.Replaced.{free-state}
 use Rattle.ledger.specs.declared.state.State.the-variants.{Consented}
 use Rattle.desk.specs.Push.{pushAt}
-use Rattle.desk.specs.Decide.{referenceAt, consentAt, declineAt}
-use Rattle.desk.specs.Token.{codeAt, tokenAt}
+use Rattle.desk.specs.Decide.{referencePlace, consentAt, declineAt}
+use Rattle.desk.specs.Token.{codePlace, tokenAt}
 use Rattle.desk.specs.declared.answer.Refusal.{Refusal}
 use Rattle.history.specs.Runs.{Call, push, decide, token, resource, sweep, Typed, Step, step}
 use Rattle.history.specs.Events.{EventKind, Consent, Token, Drop, SecondUse, Event, ofRecord, dropped, eventsOf, is}
 use Rattle.history.specs.Counts.{Whose, such, counted, consents, tokens, drops, waits, waiting}
-use Rattle.conduct.proofs.Turns.{Passed}
+use Rattle.desk.proofs.Turns.{Passed}
 use Rattle.history.proofs.Steps.{checksOf, refusal, acceptance, left, step-cases, decide-branch}
 use Rattle.history.proofs.Events.{count-none, count-provided, dropped-none, standing, refused-none, consent-events, decline-events}
 use Rattle.conduct.proofs.Facts.{push-facts, decide-facts, token-facts, resource-facts, sweep-facts}
@@ -81,7 +81,7 @@ module _ (whose : Whose) where
       decide-branch (Even l) l t d out
       (λ yes.
       let e = consented l t d out y f in
-      let k = referenceAt l d in
+      let k = referencePlace l d in
       let s = consentOne l t d out y f in
       let m = consentAt l t (d .holder) (d .fresh) out k .ledger in
       let w : bit (whose (client s) (holder s)) ≡ bit (whose (d .client) (d .holder)) = rw (e .client-is, e .by, e .holder-is) in
@@ -97,7 +97,7 @@ module _ (whose : Whose) where
       ))
       (λ no.
       let e = declines l t d out y f in
-      let k = referenceAt l d in
+      let k = referencePlace l d in
       let m = declineAt l t (d .holder) out k .ledger in
       omega (
         arith,
@@ -111,7 +111,7 @@ module _ (whose : Whose) where
   even-done l (token t table q) o y ok =
       let f = token-facts l t table q ok in
       let e = redeems l t table q y f in
-      let k = codeAt l q in
+      let k = codePlace l q in
       let s = tokenOne l t table q y f in
       let w : bit (whose (client (rec l k)) (holder (rec l k))) ≡ bit (whose (q .client) (holder s)) = rw (e .by, e .holder-is) in
       omega (

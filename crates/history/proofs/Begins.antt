@@ -12,9 +12,9 @@ use Rattle.ledger.specs.Limits.{headSize, recordSize, recordsLeast, recordsMost
 use Rattle.ledger.specs.Sound.{sized}
 use Rattle.desk.specs.Answers.{numberOf, done}
 use Rattle.desk.specs.Outcome.{Outcome, left}
-use Rattle.desk.specs.Start.{fresh, start}
+use Rattle.desk.specs.Start.{emptyLedger, start}
 use Rattle.desk.specs.declared.answer.Refusal.the-variants.{LedgerUnsound}
-use Rattle.conduct.proofs.Turns.{number-refused}
+use Rattle.desk.proofs.Turns.{number-refused}
 use Rattle.history.specs.Demand3.{RoomFor, RunsBegin}
 
 -- the records that a buffer has room for
@@ -41,15 +41,15 @@ room-sized n l r =
     (both-true (leb (length l) (headSize + recordsMost * recordSize)) _ (le-leb (length l) (headSize + recordsMost * recordSize) (omega arith))
     (eq-eqb ((length l - headSize) % recordSize) 0 (omega arith)))
 
-start-sized : (l : List ℕ) → sized l ≡ true → start l ≡ left done (fresh (length l))
+start-sized : (l : List ℕ) → sized l ≡ true → start l ≡ left done (emptyLedger (length l))
 unfolding start
-start-sized l e = ap (λ (b : Bool). cond b (left done (fresh (length l))) (left (numberOf LedgerUnsound) l)) e
+start-sized l e = ap (λ (b : Bool). cond b (left done (emptyLedger (length l))) (left (numberOf LedgerUnsound) l)) e
 
 accepted-sized : (l : List ℕ) → start l .answer ≡ done → sized l ≡ true
 unfolding start
 accepted-sized l = go (sized l)
   where
-    go : (b : Bool) → (cond b (left done (fresh (length l))) (left (numberOf LedgerUnsound) l)) .answer ≡ done → b ≡ true
+    go : (b : Bool) → (cond b (left done (emptyLedger (length l))) (left (numberOf LedgerUnsound) l)) .answer ≡ done → b ≡ true
     go true e = refl
     go false e = absurd (number-refused LedgerUnsound e)
 
@@ -59,8 +59,8 @@ runs-begin =
       begun = λ l e.
           let s = accepted-sized l e in
           let r = sized-room l s in
-          record { slots = slotsIn l; room = r; leaves = ap (λ (o : Outcome ℕ). o .ledger) (start-sized l s) ∙ ap fresh (r .long) };
+          record { slots = slotsIn l; room = r; leaves = ap (λ (o : Outcome ℕ). o .ledger) (start-sized l s) ∙ ap emptyLedger (r .long) };
       begins = λ n l r.
           let e = start-sized l (room-sized n l r) in
-          (ap (λ (o : Outcome ℕ). o .answer) e, ap (λ (o : Outcome ℕ). o .ledger) e ∙ ap fresh (r .long));
+          (ap (λ (o : Outcome ℕ). o .answer) e, ap (λ (o : Outcome ℕ). o .ledger) e ∙ ap emptyLedger (r .long));
     }

@@ -55,8 +55,8 @@ use Rattle.upkeep.proofs.Kept.{head-swept, length-sweep}
 use Rattle.desk.specs.Checks.{scopeFits, within}
 use Rattle.desk.specs.Requests.{PushRequest, DecideRequest, TokenRequest, ResourceRequest}
 use Rattle.desk.specs.Push.{pushRecord, pushAt}
-use Rattle.desk.specs.Decide.{referenceAt, consentRecord, consentAt, declineAt}
-use Rattle.desk.specs.Token.{codeAt, tokenRecord, tokenAt}
+use Rattle.desk.specs.Decide.{referencePlace, consentRecord, consentAt, declineAt}
+use Rattle.desk.specs.Token.{codePlace, tokenRecord, tokenAt}
 use Rattle.desk.specs.Resource.{tokenPlace}
 use Rattle.history.specs.Runs.{TypedPush, TypedDecide, TypedToken}
 use Rattle.conduct.proofs.Facts.{PushFacts, DecideFacts, TokenFacts, ResourceFacts}
@@ -198,7 +198,7 @@ pub record Declines (l : List ℕ) (t : ℕ) (d : DecideRequest) (k : ℕ) (m : 
 
 module _ (l : List ℕ) (t : ℕ) (d : DecideRequest) (out : List ℕ) (y : TypedDecide t d out) (f : DecideFacts l t d out) where
   abbrev decidePlace : ℕ
-  decidePlace = referenceAt l d
+  decidePlace = referencePlace l d
 
   pub decide-found : First (isReference (d .reference) (d .client)) l decidePlace
   decide-found = first-in (isReference (d .reference) (d .client)) l (f .there)
@@ -278,7 +278,7 @@ code-state r e n = eqb-true (state r) 2 (either (inState Consented r) (inState R
 
 module _ (l : List ℕ) (t : ℕ) (table : List ℕ) (q : TokenRequest) (y : TypedToken t table q) (f : TokenFacts l t table q) where
   abbrev tokenAtPlace : ℕ
-  tokenAtPlace = codeAt l q
+  tokenAtPlace = codePlace l q
 
   pub token-found : First (isCode (q .code) (q .client)) l tokenAtPlace
   token-found = first-in (isCode (q .code) (q .client)) l (f .there)

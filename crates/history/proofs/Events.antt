@@ -12,8 +12,8 @@ use Rattle.ledger.specs.Fields.{rec, records, state, inState, grant}
 use Rattle.ledger.specs.declared.state.State.the-variants.{Free, Consented}
 use Rattle.desk.specs.Answers.{numberOf}
 use Rattle.desk.specs.Requests.{DecideRequest}
-use Rattle.desk.specs.Decide.{referenceAt, consentRecord, consentAt, declineAt}
-use Rattle.desk.specs.Token.{codeAt}
+use Rattle.desk.specs.Decide.{referencePlace, consentRecord, consentAt, declineAt}
+use Rattle.desk.specs.Token.{codePlace}
 use Rattle.desk.specs.declared.answer.Refusal.{Refusal}
 use Rattle.history.specs.Runs.{Call, push, decide, token, resource, sweep}
 use Rattle.history.specs.Events.{Consent, No, Drop, SecondUse, Event, event, ofRecord, provided, dropped, eventsOf, listed}
@@ -127,7 +127,7 @@ pub refused-none : (q : Event → Bool) (l : List ℕ) (c : Call) (why : Refusal
     → some q (eventsOf (refusal l c why)) ≡ false
 refused-none q l (push t table p) why h = rw (refused-not why)
 refused-none q l (decide t d out) why h = rw (refused-not why)
-refused-none q l (token t table p) why h = rw (refused-not why) (some-provided q (eqb (numberOf why) 15) (ofRecord SecondUse (rec l (codeAt l p)) (token t table p)) (h (rec l (codeAt l p))))
+refused-none q l (token t table p) why h = rw (refused-not why) (some-provided q (eqb (numberOf why) 15) (ofRecord SecondUse (rec l (codePlace l p)) (token t table p)) (h (rec l (codePlace l p))))
 refused-none q l (resource t p) why h = rw (refused-not why)
 refused-none q l (sweep t) why h = rw (dropped-same (sweep t) (records l))
 
@@ -135,13 +135,13 @@ refused-none q l (sweep t) why h = rw (dropped-same (sweep t) (records l))
 
 pub consent-events : (l : List ℕ) (t : ℕ) (d : DecideRequest) (out : List ℕ) → d .yes ≡ true
     → eventsOf (deciding l t d out (consenting l t d out))
-    ≡ event Consent (d .client) (d .holder) (grant (consentRecord t (d .holder) (d .fresh) (rec l (referenceAt l d)))) (decide t d out) ∷ []
+    ≡ event Consent (d .client) (d .holder) (grant (consentRecord t (d .holder) (d .fresh) (rec l (referencePlace l d)))) (decide t d out) ∷ []
 unfolding consentAt
 consent-events l t d out e =
-    ap (λ (b : Bool). event (cond b Consent No) (d .client) (d .holder) (grant (consentRecord t (d .holder) (d .fresh) (rec l (referenceAt l d)))) (decide t d out) ∷ []) e
+    ap (λ (b : Bool). event (cond b Consent No) (d .client) (d .holder) (grant (consentRecord t (d .holder) (d .fresh) (rec l (referencePlace l d)))) (decide t d out) ∷ []) e
 
 pub decline-events : (l : List ℕ) (t : ℕ) (d : DecideRequest) (out : List ℕ) → d .yes ≡ false
-    → eventsOf (deciding l t d out (declining l t d out)) ≡ event No (d .client) (d .holder) (grant (rec l (referenceAt l d))) (decide t d out) ∷ []
+    → eventsOf (deciding l t d out (declining l t d out)) ≡ event No (d .client) (d .holder) (grant (rec l (referencePlace l d))) (decide t d out) ∷ []
 unfolding declineAt
 decline-events l t d out e =
-    ap (λ (b : Bool). event (cond b Consent No) (d .client) (d .holder) (grant (rec l (referenceAt l d))) (decide t d out) ∷ []) e
+    ap (λ (b : Bool). event (cond b Consent No) (d .client) (d .holder) (grant (rec l (referencePlace l d))) (decide t d out) ∷ []) e

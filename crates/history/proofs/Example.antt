@@ -19,7 +19,7 @@ use Rattle.sha256.specs.Pad.{pad, blocks}
 use Rattle.sha256.specs.Round.{T1, round, rounds}
 use Rattle.sha256.specs.Schedule.{next, words, schedule}
 use Rattle.sha256.specs.Word.{Σ0, Σ1, σ0, σ1}
-use Rattle.s256.specs.Base64url.{letter, characters, base64url}
+use Rattle.texts.specs.Base64url.{letter, characters, base64url}
 use Rattle.s256.specs.Rule.{matches}
 use Rattle.clients.specs.Fields.{client, entries}
 use Rattle.clients.specs.Known.{hasId, hasKey, placeOf, isKnown}
@@ -30,7 +30,7 @@ use Rattle.ledger.specs.Sound.{sized, numbersSound, bytesSound, usedSound, noTo
 use Rattle.ledger.specs.Sweep.{sweptRecord, sweptTo, swept, due, freedOf, freed}
 use Rattle.ledger.specs.Write.{pushed, consented, redeemed, free}
 use Rattle.desk.specs.Checks.{first, scopeFits}
-use Rattle.desk.specs.Start.{fresh}
+use Rattle.desk.specs.Start.{emptyLedger}
 use Rattle.desk.specs.Push.{pushChecks, pushRecord, pushAt, push as doPush}
 use Rattle.desk.specs.Decide.{decideChecks, consentRecord, consentAt, declineAt, decideAt, decide as doDecide}
 use Rattle.desk.specs.Token.{tokenChecks, tokenRecord, tokenAt, token as doToken}
@@ -109,7 +109,7 @@ typed-resource t h =
 -- ---- the runs
 
 pub example : Example
-unfolding tabulate numFrom num digits laid put blank zeros same visible urlSafe unreserved redirectFormed challengeFormed verifierFormed redirectPrefix K added compress hashValue joined sha256 pad blocks T1 round rounds next words schedule Σ0 Σ1 σ0 σ1 letter characters base64url matches client entries hasId hasKey placeOf isKnown lengthRight idGiven idsGiven keyGiven keysGiven sameId idsDistinct restZero restsZero tableSound untimely taken isFree isWith isReference isCode isToken rec slots records sized numbersSound bytesSound usedSound noToken someToken stated recordSound sameGrant holds meets ownApart headSound sound sweptRecord sweptTo swept due freedOf freed pushed consented redeemed free first scopeFits fresh pushChecks pushRecord pushAt doPush decideChecks consentRecord consentAt declineAt decideAt doDecide tokenChecks tokenRecord tokenAt doToken resourceChecks look doResource sweepChecks doSweep step listed
+unfolding tabulate numFrom num digits laid put blank zeros same visible urlSafe unreserved redirectFormed challengeFormed verifierFormed redirectPrefix K added compress hashValue joined sha256 pad blocks T1 round rounds next words schedule Σ0 Σ1 σ0 σ1 letter characters base64url matches client entries hasId hasKey placeOf isKnown lengthRight idGiven idsGiven keyGiven keysGiven sameId idsDistinct restZero restsZero tableSound untimely taken isFree isWith isReference isCode isToken rec slots records sized numbersSound bytesSound usedSound noToken someToken stated recordSound sameGrant holds meets ownApart headSound sound sweptRecord sweptTo swept due freedOf freed pushed consented redeemed free first scopeFits emptyLedger pushChecks pushRecord pushAt doPush decideChecks consentRecord consentAt declineAt decideAt doDecide tokenChecks tokenRecord tokenAt doToken resourceChecks look doResource sweepChecks doSweep step listed
 example =
     record {
       opening-typed = (

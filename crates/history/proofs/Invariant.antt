@@ -22,14 +22,14 @@ use Rattle.ledger.specs.Sweep.{sweptRecord}
 use Rattle.ledger.proofs.Records.{records-at}
 use Rattle.upkeep.proofs.Replaced.{free-state}
 use Rattle.upkeep.proofs.Heads.{rec-next}
-use Rattle.desk.specs.Start.{fresh}
+use Rattle.desk.specs.Start.{emptyLedger}
 use Rattle.desk.specs.Push.{pushAt}
 use Rattle.desk.specs.Requests.{PushRequest, DecideRequest, TokenRequest}
 use Rattle.desk.specs.Token.{tokenAt}
 use Rattle.history.specs.Runs.{Call, push, decide, token, resource, sweep, Typed, Step, step, started}
 use Rattle.history.specs.Events.{Push, Consent, No, Token, Event, event, eventsOf, listed}
 use Rattle.history.specs.Histories.{concerns, history, unborn, asked, decided, redeemed}
-use Rattle.conduct.proofs.Turns.{Passed}
+use Rattle.desk.proofs.Turns.{Passed}
 use Rattle.conduct.proofs.Facts.{push-facts, decide-facts, token-facts, resource-facts, sweep-facts}
 use Rattle.history.proofs.Steps.{checksOf, refusal, acceptance, left, step-cases, decide-branch}
 use Rattle.history.proofs.Events.{dropped-none, refused-none, consent-events, decline-events}
@@ -308,7 +308,7 @@ inv-step l es c good y inv =
 -- ---- at the start
 
 pub started-at : (n j : ℕ) → state (getD (records (started n)) j []) ≡ 0
-unfolding fresh rec
+unfolding emptyLedger rec
 started-at n j = go (decLt j (slots (started n)))
   where
     zero-at : state (rec (started n) j) ≡ 0

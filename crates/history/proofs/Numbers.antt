@@ -11,10 +11,10 @@ use Rattle.octets.proofs.Parts.{length-blank}
 use Rattle.octets.proofs.Numbers.{Octets}
 use Rattle.ledger.specs.Fields.{nextNumber, records}
 use Rattle.upkeep.proofs.Heads.{next-is}
-use Rattle.desk.specs.Start.{fresh}
+use Rattle.desk.specs.Start.{emptyLedger}
 use Rattle.desk.specs.Push.{pushAt}
 use Rattle.desk.specs.Token.{tokenAt}
-use Rattle.conduct.proofs.Turns.{Passed}
+use Rattle.desk.proofs.Turns.{Passed}
 use Rattle.conduct.proofs.Facts.{push-facts, decide-facts, token-facts, resource-facts, sweep-facts}
 use Rattle.history.specs.Runs.{Call, push, decide, token, resource, sweep, Typed, Step, step, started}
 use Rattle.history.specs.Events.{Push, Event, event, eventsOf, is, listed}
@@ -70,7 +70,7 @@ numbered-step l es c g y x =
     (λ ok. numbered-done l c es (g .bytes) y ok x)
 
 pub numbered-start : (n : ℕ) → Numbered (started n) (numbersOf [])
-unfolding listed fresh tabulate
+unfolding listed emptyLedger tabulate
 numbered-start n =
     let b = length-blank (32 + n * 256) in
     record { next = next-is 1 (blank (32 + n * 256)) (omega arith) (omega arith); are = refl }

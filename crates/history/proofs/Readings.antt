@@ -19,9 +19,9 @@ use Rattle.desk.specs.Requests.{ResourceRequest}
 use Rattle.desk.specs.Answers.{numberOf}
 use Rattle.desk.specs.declared.answer.Refusal.the-variants.{CodeRedeemed}
 use Rattle.desk.specs.Push.{pushAt}
-use Rattle.desk.specs.Token.{codeAt, tokenAt}
+use Rattle.desk.specs.Token.{codePlace, tokenAt}
 use Rattle.desk.specs.Resource.{tokenPlace}
-use Rattle.conduct.proofs.Turns.{Passed}
+use Rattle.desk.proofs.Turns.{Passed}
 use Rattle.conduct.proofs.Facts.{resource-facts}
 use Rattle.history.specs.Runs.{Call, push, decide, token, resource, sweep, Typed, Said, Step, step, numberIn, accepted, grantOf, holderOf, steps, last}
 use Rattle.history.specs.Events.{Push, Consent, No, Token, SecondUse, Reading, Event, event, ofRecord, provided, readerOf, happened, eventsOf, events, rank, is, listed}
@@ -233,7 +233,7 @@ odd-none v (decide t d out) a l m =
     some-provided (odd v) (accepted a) (event (cond (d .yes) Consent No) (d .client) (d .holder) (grantOf a) (decide t d out)) refl
 odd-none v (token t table q) a l m =
     some-either (odd v) (accepted a) (eqb (numberIn a) (numberOf CodeRedeemed)) (event Token (q .client) (holderOf a) (grantOf a) (token t table q))
-    (ofRecord SecondUse (rec l (codeAt l q)) (token t table q)) (and-false (same (q .fresh) v)) (and-false (same (q .fresh) v))
+    (ofRecord SecondUse (rec l (codePlace l q)) (token t table q)) (and-false (same (q .fresh) v)) (and-false (same (q .fresh) v))
 odd-none v (resource t q) a l m =
     some-provided (odd v) (accepted a) (event Reading (readerOf l q) (holderOf a) (grantOf a) (resource t q)) refl
 odd-none v (sweep t) a l m = dropped-none (odd v) (sweep t) (λ r. refl) (records l) (records m)

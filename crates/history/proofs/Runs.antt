@@ -8,7 +8,7 @@ use Rattle.ledger.specs.Sound.{sound}
 use Rattle.upkeep.proofs.Ranges.{octets-started}
 use Rattle.upkeep.proofs.Kept.{sound-start}
 use Rattle.desk.specs.Requests.{PushRequest, DecideRequest, TokenRequest}
-use Rattle.desk.specs.Start.{fresh}
+use Rattle.desk.specs.Start.{emptyLedger}
 use Rattle.conduct.proofs.Keeping.{
   PushTyped,
   DecideTyped,
@@ -86,5 +86,5 @@ along P f (c ∷ cs) l es g y x =
 
 -- the ledger that start leaves is sound, and bytes
 pub good-start : (n : ℕ) → 1 ≤ n → n ≤ 200 → Good (started n)
-unfolding fresh
+unfolding emptyLedger
 good-start n a b = record { is-sound = sound-start n a b; bytes = octets-started (32 + n * 256) }

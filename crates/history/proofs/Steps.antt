@@ -17,8 +17,8 @@ use Rattle.desk.specs.Checks.{Check}
 use Rattle.desk.specs.Requests.{DecideRequest}
 use Rattle.desk.specs.Outcome.{Outcome}
 use Rattle.desk.specs.Push.{pushChecks, pushAt}
-use Rattle.desk.specs.Decide.{decideChecks, decideAt, referenceAt, consentAt, declineAt}
-use Rattle.desk.specs.Token.{tokenChecks, tokenAt, codeAt}
+use Rattle.desk.specs.Decide.{decideChecks, decideAt, referencePlace, consentAt, declineAt}
+use Rattle.desk.specs.Token.{tokenChecks, tokenAt, codePlace}
 use Rattle.desk.specs.Resource.{resourceChecks, tokenPlace}
 use Rattle.desk.specs.Sweep.{sweepChecks}
 use Rattle.desk.specs.declared.answer.Answer.{Answer}
@@ -26,7 +26,7 @@ use Rattle.desk.specs.declared.answer.Decided.{Decided}
 use Rattle.desk.specs.declared.answer.Swept.{Swept}
 use Rattle.desk.specs.declared.answer.Refusal.{Refusal}
 use Rattle.desk.specs.declared.answer.Refusal.the-variants.{LedgerUnsound}
-use Rattle.conduct.proofs.Turns.{Passed, Turn, number-refused}
+use Rattle.desk.proofs.Turns.{Passed, Turn, number-refused}
 use Rattle.conduct.proofs.Rows.{push-cases, push-turn, decide-cases, decide-turn, token-cases, token-turn, resource-cases, resource-turn, sweep-cases, sweep-turn}
 use Rattle.desk.proofs.Written.{decide-yes, decide-no}
 use Rattle.history.specs.Runs.{Call, push, decide, token, resource, sweep, Said, answered, decided, swept, Step, made, step, numberIn}
@@ -34,8 +34,8 @@ use Rattle.history.specs.Runs.{Call, push, decide, token, resource, swee
 -- the checks of a call
 abbrev pub checksOf : List ℕ → Call → List Check
 checksOf l (push t table p) = pushChecks l t table p
-checksOf l (decide t d out) = decideChecks l t d out (referenceAt l d)
-checksOf l (token t table q) = tokenChecks l t table q (codeAt l q)
+checksOf l (decide t d out) = decideChecks l t d out (referencePlace l d)
+checksOf l (token t table q) = tokenChecks l t table q (codePlace l q)
 checksOf l (resource t q) = resourceChecks l t q (tokenPlace l q)
 checksOf l (sweep t) = sweepChecks l t
 
@@ -53,15 +53,15 @@ refusal l c why = made c l (refusedBy why c) l
 -- an accepted step
 abbrev pub reply : List ℕ → Call → Said
 reply l (push t table p) = answered (pushAt l t table p (place isFree (records l)) .answer)
-reply l (decide t d out) = decided (decideAt l t d out (referenceAt l d) .answer) (decideAt l t d out (referenceAt l d) .output)
-reply l (token t table q) = answered (tokenAt l t q (codeAt l q) .answer)
+reply l (decide t d out) = decided (decideAt l t d out (referencePlace l d) .answer) (decideAt l t d out (referencePlace l d) .output)
+reply l (token t table q) = answered (tokenAt l t q (codePlace l q) .answer)
 reply l (resource t q) = answered (answerOf (rec l (tokenPlace l q)))
 reply l (sweep t) = swept (sweptOf (freed t l))
 
 abbrev pub left : List ℕ → Call → List ℕ
 left l (push t table p) = pushAt l t table p (place isFree (records l)) .ledger
-left l (decide t d out) = decideAt l t d out (referenceAt l d) .ledger
-left l (token t table q) = tokenAt l t q (codeAt l q) .ledger
+left l (decide t d out) = decideAt l t d out (referencePlace l d) .ledger
+left l (token t table q) = tokenAt l t q (codePlace l q) .ledger
 left l (resource t q) = withClock t l
 left l (sweep t) = withClock t (sweptLedger t l)
 
@@ -90,10 +90,10 @@ refused-not why = ne-eqb (numberOf why) 0 (number-refused why)
 
 -- an accepted decide, by yes and by no
 abbrev pub consenting : List ℕ → ℕ → DecideRequest → List ℕ → Outcome Decided
-consenting l t d out = consentAt l t (d .holder) (d .fresh) out (referenceAt l d)
+consenting l t d out = consentAt l t (d .holder) (d .fresh) out (referencePlace l d)
 
 abbrev pub declining : List ℕ → ℕ → DecideRequest → List ℕ → Outcome Decided
-declining l t d out = declineAt l t (d .holder) out (referenceAt l d)
+declining l t d out = declineAt l t (d .holder) out (referencePlace l d)
 
 abbrev pub deciding : List ℕ → ℕ → DecideRequest → List ℕ → Outcome Decided → Step
 deciding l t d out o = made (decide t d out) l (decided (o .answer) (o .output)) (o .ledger)
@@ -104,12 +104,12 @@ pub decide-branch : (P : Step → Type 0) (l : List ℕ) (t : ℕ) (d : DecideRe
     → P (acceptance l (decide t d out))
 decide-branch P l t d out y n = go (d .yes) refl
   where
-    by : (x : Outcome Decided) → decideAt l t d out (referenceAt l d) ≡ x → P (deciding l t d out x) → P (deciding l t d out (decideAt l t d out (referenceAt l d)))
+    by : (x : Outcome Decided) → decideAt l t d out (referencePlace l d) ≡ x → P (deciding l t d out x) → P (deciding l t d out (decideAt l t d out (referencePlace l d)))
     by x e h = rw e h
 
     go : (b : Bool) → d .yes ≡ b → P (acceptance l (decide t d out))
-    go true e = by (consenting l t d out) (decide-yes l t d out (referenceAt l d) e refl) (y e)
-    go false e = by (declining l t d out) (decide-no l t d out (referenceAt l d) e refl) (n e)
+    go true e = by (consenting l t d out) (decide-yes l t d out (referencePlace l d) e refl) (y e)
+    go false e = by (declining l t d out) (decide-no l t d out (referencePlace l d) e refl) (n e)
 
 -- ---- 1 is answered only where the ledger is not sound
 
@@ -134,7 +134,7 @@ turn-unsound (c ∷ cs) u =
 pub never-one : (l : List ℕ) → sound l ≡ true → (c : Call) → numberIn (step l c .answer) ≢ numberOf LedgerUnsound
 unfolding step pushChecks decideChecks tokenChecks resourceChecks sweepChecks
 never-one l s (push t table p) e = false≢true (rw s at (turn-unsound (pushChecks l t table p) (push-turn l t table p LedgerUnsound .0 e)))
-never-one l s (decide t d out) e = false≢true (rw s at (turn-unsound (decideChecks l t d out (referenceAt l d)) (decide-turn l t d out LedgerUnsound .0 e)))
-never-one l s (token t table q) e = false≢true (rw s at (turn-unsound (tokenChecks l t table q (codeAt l q)) (token-turn l t table q LedgerUnsound .0 e)))
+never-one l s (decide t d out) e = false≢true (rw s at (turn-unsound (decideChecks l t d out (referencePlace l d)) (decide-turn l t d out LedgerUnsound .0 e)))
+never-one l s (token t table q) e = false≢true (rw s at (turn-unsound (tokenChecks l t table q (codePlace l q)) (token-turn l t table q LedgerUnsound .0 e)))
 never-one l s (resource t q) e = false≢true (rw s at (turn-unsound (resourceChecks l t q (tokenPlace l q)) (resource-turn l t q LedgerUnsound .0 e)))
 never-one l s (sweep t) e = false≢true (rw s at (turn-unsound (sweepChecks l t) (sweep-turn l t LedgerUnsound .0 e)))

@@ -8,7 +8,7 @@ use Rattle.ledger.specs.Fields.{records, rec, inState, client, holder, grant}
 use Rattle.ledger.specs.declared.state.State.the-variants.{Free, Consented}
 use Rattle.desk.specs.Answers.{numberOf}
 use Rattle.desk.specs.Requests.{ResourceRequest}
-use Rattle.desk.specs.Token.{codeAt}
+use Rattle.desk.specs.Token.{codePlace}
 use Rattle.desk.specs.Resource.{tokenPlace}
 use Rattle.desk.specs.declared.answer.Refusal.the-variants.{CodeRedeemed}
 use Rattle.history.specs.Runs.{Call, push, decide, token, resource, sweep, Said, Step, numberIn, accepted, grantOf, holderOf, started, steps}
@@ -62,7 +62,7 @@ happened (decide t d out) a l m = provided (accepted a) (event (cond (d .yes) Co
 -- one that was answered 15: what the record says whose code it showed
 happened (token t table q) a l m =
     provided (accepted a) (event Token (q .client) (holderOf a) (grantOf a) (token t table q))
-    ++ provided (eqb (numberIn a) (numberOf CodeRedeemed)) (ofRecord SecondUse (rec l (codeAt l q)) (token t table q))
+    ++ provided (eqb (numberIn a) (numberOf CodeRedeemed)) (ofRecord SecondUse (rec l (codePlace l q)) (token t table q))
 -- a reading that was granted: the client of the token's record, the holder and the grant number answered
 happened (resource t q) a l m =
     provided (accepted a) (event Reading (readerOf l q) (holderOf a) (grantOf a) (resource t q))

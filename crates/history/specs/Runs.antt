@@ -8,7 +8,7 @@ use lib.ListN.{length, getD}
 use Rattle.ledger.specs.Limits.{headSize, recordSize}
 use Rattle.desk.specs.Answers.{done}
 use Rattle.desk.specs.Requests.{PushRequest, DecideRequest, TokenRequest, ResourceRequest}
-use Rattle.desk.specs.Start.{fresh}
+use Rattle.desk.specs.Start.{emptyLedger}
 use Rattle.desk.specs.Push.{push as doPush}
 use Rattle.desk.specs.Decide.{decide as doDecide}
 use Rattle.desk.specs.Token.{token as doToken}
@@ -132,7 +132,7 @@ holderOf (swept s) = 0
 -- ---- a run: "Start a ledger once", for n records, "then make the other calls in any order"
 
 abbrev pub started : ℕ → List ℕ
-started n = fresh (headSize + n * recordSize)
+started n = emptyLedger (headSize + n * recordSize)
 
 -- the steps that the calls take, one after the other, and the ledger that they leave
 abbrev pub steps : List ℕ → List Call → List Step

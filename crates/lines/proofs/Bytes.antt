@@ -1,4 +1,4 @@
--- Byte after byte: what is left and what is put out, and that it is line after line. Assumes nothing.
+-- Byte after byte: what is left and what is put out, and that it is line after line.
 use Prim.Native.Nat.{ℕ}
 use mathlib.Core.Path.{_≡_, refl, sym, ap, _∙_}
 use mathlib.Core.Bool.{Bool, true, false, cond}
@@ -7,7 +7,7 @@ use lib.Dec.{eqb}
 use lib.ListN.{take}
 use borrow.Author.Tests.{eq-eqb}
 use Rattle.frames.specs.Limits.{lineKept}
-use Rattle.frames.specs.Hex.{lineEnd, lineOf}
+use Rattle.frames.specs.Line.{lineEnd, lineOf}
 use Rattle.frames.specs.Serve.{Desk, serveLine}
 use Rattle.lines.specs.Lines.{linesFrom, counted, awaited, answers, deskOf}
 use Rattle.lines.specs.Turn.{Held, lineIn, deskOfHeld, ending, turn, says}

@@ -1,4 +1,4 @@
--- Call after call and chunk after chunk is byte after byte. Assumes nothing.
+-- Call after call and chunk after chunk is byte after byte.
 use Prim.Native.Nat.{ℕ, zero, suc, _+_, _-_, _≤_, _<_}
 use native.Mathlib.Omega.{arith}
 use mathlib.Core.Path.{_≡_, refl, sym, ap, _∙_}
@@ -10,7 +10,7 @@ use lib.Seq.{drop-at}
 use borrow.Author.Tests.{le-leb, leb-true}
 use Rattle.octets.proofs.Parts.{length-laid}
 use Rattle.frames.specs.Limits.{answerLine}
-use Rattle.frames.specs.Hex.{lineEnd}
+use Rattle.frames.specs.Line.{lineEnd}
 use Rattle.lines.specs.Turn.{Held, held, turn, says, fits}
 use Rattle.lines.specs.Feed.{Fed, fed, feedFrom, Left, leaves, feed, finish}
 use Rattle.lines.specs.Run.{puts, Passed, passed, passOn, passAll, session, joined}

@@ -1,4 +1,4 @@
--- Laws of what is kept from call to call: a byte more, a line's end. Assumes nothing.
+-- Laws of what is kept from call to call: a byte more, a line's end.
 use Prim.Native.Nat.{ℕ, suc, _+_, _≤_, _<_, min}
 use native.Mathlib.Omega.{arith}
 use native.Mathlib.Numerals.{add-one}
@@ -12,10 +12,11 @@ use borrow.Author.Tests.{leb-true, leb-false, eqb-true, le-leb, lt-leb, eq-eqb, 
 use Rattle.octets.specs.Parts.{laid}
 use Rattle.octets.proofs.Parts.{length-laid}
 use Rattle.octets.proofs.Tests.{both}
-use Rattle.frames.specs.declared.kind.Kind.the-variants.{NoFrame}
+use Rattle.wire.specs.declared.kind.Kind.the-variants.{NoFrame}
 use Rattle.frames.specs.Limits.{lineMost, lineKept, ledgerMost, tableMost, answerLine}
-use Rattle.frames.specs.Hex.{lineEnd, decoded, lineOf}
-use Rattle.frames.specs.Kinds.{frameKind}
+use Rattle.texts.specs.Hex.{decoded}
+use Rattle.frames.specs.Line.{lineEnd, lineOf}
+use Rattle.frames.specs.Line.{frameKind}
 use Rattle.frames.specs.Serve.{Desk, serve, serveLine}
 use Rattle.frames.specs.Hold.{place}
 use Rattle.lines.specs.Lines.{deskOf}

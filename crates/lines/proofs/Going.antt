@@ -1,4 +1,4 @@
--- Laws of the loop over a chunk, of a call that does nothing, and of the end of input. Assumes nothing.
+-- Laws of the loop over a chunk, of a call that does nothing, and of the end of input.
 use Prim.Native.Nat.{ℕ, _+_, _-_, _≤_, _<_}
 use native.Mathlib.Omega.{arith}
 use native.Mathlib.Numerals.{add-one}
@@ -13,7 +13,7 @@ use Rattle.octets.specs.Parts.{laid, put}
 use Rattle.octets.proofs.Parts.{length-put}
 use Rattle.lines.specs.declared.feed.State.{State}
 use Rattle.frames.specs.Limits.{answerLine}
-use Rattle.frames.specs.Hex.{lineEnd}
+use Rattle.frames.specs.Line.{lineEnd}
 use Rattle.lines.specs.Turn.{Held, held, turn, says, fits}
 use Rattle.lines.specs.Feed.{Turned, turned, putting, Fed, fed, feedFrom, left, leaves, feed, finish}
 use Rattle.lines.proofs.Feeding.{Fit, of-fits, to-fits, says-most, fit-turn}

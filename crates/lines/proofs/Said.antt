@@ -1,4 +1,4 @@
--- An answer has no more bytes than the longest, and its line no more characters. Assumes nothing.
+-- An answer has no more bytes than the longest, and its line no more characters.
 use Prim.Native.Nat.{ℕ, _+_, _≤_}
 use native.Mathlib.Omega.{arith}
 use mathlib.Core.Path.{_≡_, refl}
@@ -15,14 +15,16 @@ use Rattle.desk.specs.declared.answer.Swept.{Swept}
 use Rattle.desk.specs.Checks.{Verdict, accepted, stopped, first}
 use Rattle.desk.specs.Requests.{DecideRequest}
 use Rattle.desk.specs.Outcome.{Outcome, concludes}
-use Rattle.desk.specs.Decide.{decide, decideLeaves, decideChecks, decideAt, consentAt, declineAt, referenceAt}
-use Rattle.frames.specs.declared.kind.Kind.{Kind}
-use Rattle.frames.specs.declared.kind.Kind.the-variants.{Start, Push, Decide, Token, Resource, Sweep, Client, NoFrame}
-use Rattle.frames.specs.Limits.{answerMost, answerLine, tableMost}
-use Rattle.frames.specs.Hex.{between, decoded, lineOf}
-use Rattle.frames.specs.Kinds.{frameKind}
-use Rattle.frames.specs.Calls.{time, slotCount, decideRequest}
-use Rattle.frames.specs.Answers.{sweptBytes, answerBytes, decidedBytes}
+use Rattle.desk.specs.Decide.{decide, decideLeaves, decideChecks, decideAt, consentAt, declineAt, referencePlace}
+use Rattle.wire.specs.declared.kind.Kind.{Kind}
+use Rattle.wire.specs.declared.kind.Kind.the-variants.{Start, Push, Decide, Token, Resource, Sweep, Client, NoFrame}
+use Rattle.wire.specs.Answers.{answerMost}
+use Rattle.frames.specs.Limits.{answerLine, tableMost}
+use Rattle.texts.specs.Hex.{between, decoded}
+use Rattle.frames.specs.Line.{lineOf}
+use Rattle.frames.specs.Line.{frameKind}
+use Rattle.wire.specs.Calls.{time, slotCount, decideRequest}
+use Rattle.wire.specs.Answers.{sweptBytes, answerBytes, decidedBytes}
 use Rattle.frames.specs.Serve.{Desk, Written, pushed, decided, redeemed, read, swept, started, appended, serve, serveLine}
 use Rattle.frames.proofs.Lines.{length-line}
 
@@ -55,7 +57,7 @@ module _ (l : List ℕ) (t : ℕ) (d : DecideRequest) (out : List ℕ) where
 
   decide-output : length (decide l t d out .output) ≡ length out
   unfolding decide
-  decide-output = concluded (first (decideChecks l t d out (referenceAt l d))) (decideAt l t d out (referenceAt l d)) (at-output (referenceAt l d))
+  decide-output = concluded (first (decideChecks l t d out (referencePlace l d))) (decideAt l t d out (referencePlace l d)) (at-output (referencePlace l d))
 
 -- ---- by the kind of frame
 

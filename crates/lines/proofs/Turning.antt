@@ -1,4 +1,4 @@
--- Laws of one byte with the output's buffer: a line's end, and a character more. Assumes nothing.
+-- Laws of one byte with the output's buffer: a line's end, and a character more.
 use Prim.Native.Nat.{ℕ, _+_, _-_, _≤_, _<_}
 use native.Mathlib.Omega.{arith}
 use mathlib.Core.Path.{_≡_, sym, ap, _∙_}
@@ -10,7 +10,7 @@ use borrow.Author.Tests.{le-leb, eq-eqb, ne-eqb}
 use Rattle.octets.specs.Parts.{laid, put, part, splice}
 use Rattle.octets.proofs.Parts.{put-splice, put-rest, part-length}
 use Rattle.frames.specs.Limits.{lineKept, ledgerMost, tableMost, answerLine}
-use Rattle.frames.specs.Hex.{lineEnd, lineOf}
+use Rattle.frames.specs.Line.{lineEnd, lineOf}
 use Rattle.frames.specs.Hold.{place, Said, said, say, fitting, answer}
 use Rattle.lines.specs.Turn.{Held, held, lengths, lineIn, gathered, ending, ended, turn, says, fits}
 use Rattle.lines.specs.Feed.{Turned, turned, putting}

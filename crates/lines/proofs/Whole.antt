@@ -1,4 +1,4 @@
--- The theorems of the whole run. Assumes nothing.
+-- The theorems of the whole run.
 use Prim.Native.Nat.{ℕ}
 use native.Mathlib.Omega.{arith}
 use mathlib.Core.Path.{refl, sym, _∙_}

@@ -6,7 +6,7 @@ use lib.Dec.{eqb, leb}
 use lib.ListN.{length}
 use Rattle.octets.specs.Parts.{laid, put}
 use Rattle.frames.specs.Limits.{answerLine}
-use Rattle.frames.specs.Hex.{lineEnd}
+use Rattle.frames.specs.Line.{lineEnd}
 use Rattle.lines.specs.Turn.{Held, turn, says, fits}
 
 -- one byte with the output's buffer: what it puts out goes behind what is filled already

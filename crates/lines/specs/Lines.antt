@@ -3,7 +3,7 @@ use Prim.Native.Nat.{ℕ}
 use mathlib.Core.Bool.{cond}
 use mathlib.Core.List.{List, [], _∷_, _++_}
 use lib.Dec.{eqb}
-use Rattle.frames.specs.Hex.{lineEnd, lineOf}
+use Rattle.frames.specs.Line.{lineEnd, lineOf}
 use Rattle.frames.specs.Serve.{Desk, empty, Served, serveLine}
 
 -- "Lines end in LF": the lines of what follows, where l is begun, and what is made of the characters behind the last LF

@@ -5,7 +5,7 @@ use mathlib.Core.List.{List, []}
 use lib.Dec.{eqb, leb}
 use lib.ListN.{length, take, set}
 use Rattle.frames.specs.Limits.{lineKept, ledgerMost, tableMost}
-use Rattle.frames.specs.Hex.{lineEnd, lineOf}
+use Rattle.frames.specs.Line.{lineEnd, lineOf}
 use Rattle.frames.specs.Serve.{Desk, Served, serveLine}
 use Rattle.frames.specs.Hold.{deskIn, place}
 use Rattle.lines.specs.declared.feed.State.{State}

@@ -5,12 +5,12 @@ ghost use Prim.Native.Nat.{_+_, _≤_, _<_};
 ghost use mathlib.Core.Bool.{true};
 ghost use lib.ListN.{length};
 ghost use Rattle.frames.specs.Limits.{answerLine};
-ghost use Rattle.frames.specs.Hex.{lineOf};
+ghost use Rattle.frames.specs.Line.{lineOf};
 ghost use Rattle.lines.specs.Turn.{held, lengths, fits, ended, ending, turn, says};
 ghost use Rattle.lines.specs.Feed.{turned, putting, left, feed, finish};
+use frames::limit::Answer;
 use frames::limit::Buffer;
 use frames::limit::Line;
-use frames::limit::Said;
 use frames::line::answer;
 
 // The lengths in use of the buffers of line, ledger and table.
@@ -162,7 +162,7 @@ pub fn feed(
     let mut state = s;
     let mut filled = 0;
     let mut at = 0;
-    while at < input.len() && filled + Said::LINE <= out.len() {
+    while at < input.len() && filled + Answer::LINE <= out.len() {
         let t = turn(input[at], state, line, ledger, table, out, filled);
         state = t.state;
         filled = t.filled;
@@ -186,7 +186,7 @@ pub fn finish(s: State, line: &mut [u8], ledger: &mut [u8], table: &mut [u8], ou
     if s.line == 0 {
         return nothing(s);
     }
-    if out.len() < Said::LINE {
+    if out.len() < Answer::LINE {
         return nothing(s);
     }
     let t = turn(Line::END, s, line, ledger, table, out, 0);

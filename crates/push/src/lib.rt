@@ -1,20 +1,22 @@
 // Push: a buyer's program leaves its request and gets a reference.
 // It rests on desk, which has its definition and its answers, on soundness, ledger, clients and forms, and serves demands 1 and 2.
 ghost use mathlib.Core.Path.{_≡_};
-ghost use Prim.Native.Nat.{_+_, _<_};
-ghost use Rattle.ledger.specs.Limits.{referenceLifetime, clockLimit, lastNumber};
-ghost use Rattle.ledger.specs.Fields.{rec, slots, withRecord, withNext, withClock};
+ghost use Prim.Native.Nat.{_<_};
+ghost use Rattle.ledger.specs.Limits.{lastNumber};
+ghost use Rattle.ledger.specs.Fields.{rec, slots};
 ghost use Rattle.ledger.specs.Write.{pushed};
 ghost use Rattle.desk.specs.Answers.{answerOf};
 ghost use Rattle.desk.specs.Outcome.{left};
-ghost use Rattle.desk.specs.Push.{push};
+ghost use Rattle.desk.specs.Push.{lifetime, entered, push};
 use clients::known::Known;
+use clients::record::client_at;
+use clients::record::permitted;
 use clients::table::Table;
 use desk::answer::Answer;
 use desk::answer::Refusal;
 use desk::check;
 use desk::check::Bits;
-use desk::check::Told;
+use desk::check::Test;
 use ledger::clock::Timing;
 use ledger::clock::next_number;
 use ledger::clock::set_clock;
@@ -25,8 +27,15 @@ use ledger::limit::Reference;
 use ledger::pool::Value;
 use ledger::sound::Soundness;
 
+// The seconds that a reference lives, by the client's record: the same for all.
+fn lifetime(client: &[u8]) -> u64
+    ensures { λ r. ⌜ r ≡ lifetime (now (client .entry)) ⌝ }
+{
+    Reference::LIFETIME
+}
+
 // Writes a push into its record, and answers what the record then has.
-fn enter(
+fn push_record(
     r: &mut [u8],
     scope: u32,
     grant: u64,
@@ -42,27 +51,28 @@ fn enter(
     Answer::of(r)
 }
 
-// Lends record k to be written, then writes the head: the next number and the clock.
-fn enter_at(
+// What is written once the record is found and all checks have passed: record k, which is lent on, the next number and the clock.
+fn push_at(
     ledger: &mut [u8],
     k: usize,
     time: u64,
     scope: u32,
     number: u64,
+    expiry: u64,
     client: &[u8; 16],
     challenge: &[u8],
     fresh: &[u8; 32],
     redirect: &[u8],
 ) -> Answer
-    requires { ⌜ (k < slots (now ledger)) × (time < clockLimit) × (number < lastNumber) ⌝ }
-    ensures { λ a. ⌜ left a (now (ledger .exit)) ≡ left (answerOf (pushed scope number (time + referenceLifetime) (now (client .entry)) (now (challenge .entry)) (now (fresh .entry)) (now (redirect .entry)) (rec (now (ledger .entry)) k))) (withClock time (withNext (number + 1) (withRecord (now (ledger .entry)) k (pushed scope number (time + referenceLifetime) (now (client .entry)) (now (challenge .entry)) (now (fresh .entry)) (now (redirect .entry)) (rec (now (ledger .entry)) k))))) ⌝ }
+    requires { ⌜ (k < slots (now ledger)) × (number < lastNumber) ⌝ }
+    ensures { λ a. ⌜ left a (now (ledger .exit)) ≡ entered (now (ledger .entry)) time k number (pushed scope number expiry (now (client .entry)) (now (challenge .entry)) (now (fresh .entry)) (now (redirect .entry)) (rec (now (ledger .entry)) k)) ⌝ }
 {
     let a = Ledger::HEAD + k * Ledger::RECORD;
-    let answer = enter(
+    let answer = push_record(
         &mut ledger[a..a + Ledger::RECORD],
         scope,
         number,
-        time + Reference::LIFETIME,
+        expiry,
         client,
         challenge,
         fresh,
@@ -95,13 +105,13 @@ pub fn push(
     let Table::Sound = clients::table::check(table) else {
         return Answer::refused(Refusal::TableUnsound);
     };
-    let Known::At(asker) = clients::known::find(table, client, key) else {
+    let Known::At(who) = clients::known::find(table, client, key) else {
         return Answer::refused(Refusal::ClientUnknown);
     };
-    let Told::Passed = check::texts(redirect, challenge) else {
+    let Test::Passed = check::texts(redirect, challenge) else {
         return Answer::refused(Refusal::IllFormed);
     };
-    let Bits::Granted(bits) = check::scope(scope, clients::record::permitted(table, asker)) else {
+    let Bits::Granted(bits) = check::granted(scope, permitted(table, who)) else {
         return Answer::refused(Refusal::ScopeRefused);
     };
     let Value::New = finding::pool::check(ledger, fresh) else {
@@ -111,15 +121,16 @@ pub fn push(
         return Answer::refused(Refusal::LedgerFull);
     };
     let number = next_number(ledger);
-    let Told::Passed = check::number(number) else {
+    let Test::Passed = check::number(number) else {
         return Answer::refused(Refusal::NumbersSpent);
     };
-    enter_at(
+    push_at(
         ledger,
         k,
         time,
         bits,
         number,
+        time + lifetime(client_at(table, who)),
         client,
         challenge,
         fresh,

@@ -2,13 +2,12 @@
 // It rests on desk, which has its definition and its answers, on soundness and ledger, and serves demands 1 and 2.
 ghost use mathlib.Core.Path.{_≡_};
 ghost use Rattle.desk.specs.Outcome.{left};
-ghost use Rattle.desk.specs.Resource.{look, resource};
+ghost use Rattle.desk.specs.Resource.{look, resourceBy, resource};
 use desk::answer::Answer;
 use desk::answer::Reading;
 use desk::answer::Refusal;
 use desk::check;
-use desk::check::Bits;
-use desk::check::Told;
+use desk::check::Test;
 use ledger::clock::Timing;
 use ledger::clock::set_clock;
 use ledger::find::Found;
@@ -41,16 +40,29 @@ pub fn look(
     let Life::Alive = check_life(r, time) else {
         return Reading::Refused(Refusal::RecordExpired);
     };
-    let Told::Passed = check::bound(r, presented) else {
+    let Test::Passed = check::bound(r, presented) else {
         return Reading::Refused(Refusal::KeyDiffers);
     };
-    let Bits::Granted(_) = check::scope(scope, ledger::record::scope(r)) else {
+    let Test::Passed = check::within(scope, ledger::record::scope(r)) else {
         return Reading::Refused(Refusal::ScopeRefused);
     };
-    let Told::Passed = check::held(r, holder) else {
+    let Test::Passed = check::held(r, holder) else {
         return Reading::Refused(Refusal::HolderDiffers);
     };
     Reading::Granted(Answer::of(r))
+}
+
+// What a reading leaves: where it is granted, the clock becomes now.
+fn resource_by(ledger: &mut [u8], time: u64, reading: Reading) -> Answer
+    ensures { λ a. ⌜ left a (now (ledger .exit)) ≡ resourceBy reading (now (ledger .entry)) time ⌝ }
+{
+    match reading {
+        Reading::Granted(answer) => {
+            set_clock(ledger, time);
+            answer
+        }
+        Reading::Refused(why) => Answer::refused(why),
+    }
 }
 
 pub fn resource(
@@ -64,11 +76,5 @@ pub fn resource(
     ensures { λ r. ⌜ left r (now (ledger .exit)) ≡ resource (now (ledger .entry)) time (record { token = now (token .entry); presented = now (presented .entry); scope = scope; holder = holder }) ⌝ }
 {
     let reading = look(ledger, time, token, presented, scope, holder);
-    match reading {
-        Reading::Granted(answer) => {
-            set_clock(ledger, time);
-            answer
-        }
-        Reading::Refused(why) => Answer::refused(why),
-    }
+    resource_by(ledger, time, reading)
 }

@@ -1,4 +1,3 @@
--- The laws of s256: of the loop that writes a text, of texts, and of the rule.
-pub mod Written
+-- The laws of s256: of the text of a digest, and of the rule.
 pub mod Texts
 pub mod Rules

@@ -1,4 +1,4 @@
--- What the rule says, and what its answer says. Assumes nothing.
+-- What the rule says, and what its answer says.
 use Prim.Native.Nat.{ℕ}
 use native.Mathlib.Omega.{arith}
 use mathlib.Core.Path.{_≡_, refl, sym, ap, _∙_}

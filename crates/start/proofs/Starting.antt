@@ -1,4 +1,4 @@
--- The outcome of start. Assumes nothing.
+-- The outcome of start.
 use Prim.Native.Nat.{ℕ}
 use mathlib.Core.Path.{_≡_}
 use mathlib.Core.Bool.{true, false}
@@ -9,7 +9,7 @@ use Rattle.ledger.specs.Fields.{withNext}
 use Rattle.ledger.specs.Sound.{sized}
 use Rattle.desk.specs.Answers.{done, numberOf}
 use Rattle.desk.specs.Outcome.{left}
-use Rattle.desk.specs.Start.{start, fresh}
+use Rattle.desk.specs.Start.{start, emptyLedger}
 use Rattle.desk.specs.declared.answer.Refusal.the-variants.{LedgerUnsound}
 
 -- the length alone is looked at
@@ -18,5 +18,5 @@ unfolding start
 start-1 l n a e = rw (a, e)
 
 pub start-done : (l y z : List ℕ) → sized l ≡ true → y ≡ blank (length l) → z ≡ withNext 1 y → left done z ≡ start l
-unfolding start fresh
+unfolding start emptyLedger
 start-done l y z a hy hz = rw (a, hz, hy)

@@ -3,17 +3,18 @@
 ghost use mathlib.Core.Path.{_≡_};
 ghost use Prim.Native.Nat.{_+_, _<_};
 ghost use Rattle.ledger.specs.Limits.{tokenLifetime, clockLimit};
-ghost use Rattle.ledger.specs.Fields.{rec, slots, withRecord, withClock};
+ghost use Rattle.ledger.specs.Fields.{rec, slots, challenge};
 ghost use Rattle.ledger.specs.Write.{redeemed};
 ghost use Rattle.desk.specs.Answers.{answerOf};
 ghost use Rattle.desk.specs.Outcome.{left};
-ghost use Rattle.desk.specs.Token.{token};
+ghost use Rattle.desk.specs.Token.{rewritten, token};
+ghost use Rattle.s256.specs.Rule.{matching};
 use clients::known::Known;
 use clients::table::Table;
 use desk::answer::Answer;
 use desk::answer::Refusal;
 use desk::check;
-use desk::check::Told;
+use desk::check::Test;
 use forms::Challenge;
 use forms::Form;
 use forms::Verifier;
@@ -31,21 +32,29 @@ use ledger::sound::Soundness;
 use octets::part::cut;
 use s256::Match;
 
-// Writes a redemption into its record, and answers what the record then has.
-fn redeem(r: &mut [u8], expiry: u64, fresh: &[u8; 32], key: &[u8; 32]) -> Answer
+// Check 16, of the record found.
+fn check_verifier(r: &[u8], verifier: &[u8]) -> Match
+    ensures { λ m. ⌜ m ≡ matching (now (verifier .entry)) (challenge (now (r .entry))) ⌝ }
+{
+    let matched = s256::matches(verifier, cut(r, Field::CHALLENGE, Challenge::LENGTH));
+    matched
+}
+
+// Writes the token into its record, and answers what the record then has.
+fn token_record(r: &mut [u8], expiry: u64, fresh: &[u8; 32], key: &[u8; 32]) -> Answer
     ensures { λ a. ⌜ (now (r .exit) ≡ redeemed expiry (now (fresh .entry)) (now (key .entry)) (now (r .entry))) × (a ≡ answerOf (now (r .exit))) ⌝ }
 {
     ledger::write::redeemed(r, expiry, fresh, key);
     Answer::of(r)
 }
 
-// Lends record k to be written, then writes the clock.
-fn redeem_at(ledger: &mut [u8], k: usize, time: u64, fresh: &[u8; 32], key: &[u8; 32]) -> Answer
+// What is written once the record is found and all checks have passed: record k, which is lent on, and the clock.
+fn token_at(ledger: &mut [u8], k: usize, time: u64, fresh: &[u8; 32], key: &[u8; 32]) -> Answer
     requires { ⌜ (k < slots (now ledger)) × (time < clockLimit) ⌝ }
-    ensures { λ a. ⌜ left a (now (ledger .exit)) ≡ left (answerOf (redeemed (time + tokenLifetime) (now (fresh .entry)) (now (key .entry)) (rec (now (ledger .entry)) k))) (withClock time (withRecord (now (ledger .entry)) k (redeemed (time + tokenLifetime) (now (fresh .entry)) (now (key .entry)) (rec (now (ledger .entry)) k)))) ⌝ }
+    ensures { λ a. ⌜ left a (now (ledger .exit)) ≡ rewritten (now (ledger .entry)) time k (redeemed (time + tokenLifetime) (now (fresh .entry)) (now (key .entry)) (rec (now (ledger .entry)) k)) ⌝ }
 {
     let a = Ledger::HEAD + k * Ledger::RECORD;
-    let answer = redeem(
+    let answer = token_record(
         &mut ledger[a..a + Ledger::RECORD],
         time + Token::LIFETIME,
         fresh,
@@ -80,7 +89,7 @@ pub fn token(
     let Known::At(_) = clients::known::find(table, client, key) else {
         return Answer::refused(Refusal::ClientUnknown);
     };
-    let Told::Passed = check::key(presented) else {
+    let Test::Passed = check::key(presented) else {
         return Answer::refused(Refusal::NoKey);
     };
     let Form::Well = Verifier::check(verifier) else {
@@ -89,20 +98,17 @@ pub fn token(
     let Found::At(k) = finding::record::code(ledger, code, client) else {
         return Answer::refused(Refusal::NoCode);
     };
-    let Told::Passed = check::unredeemed(at(ledger, k)) else {
+    let Test::Passed = check::unredeemed(at(ledger, k)) else {
         return Answer::refused(Refusal::CodeRedeemed);
     };
     let Life::Alive = check_life(at(ledger, k), time) else {
         return Answer::refused(Refusal::RecordExpired);
     };
-    let Match::Same = s256::matches(
-        verifier,
-        cut(at(ledger, k), Field::CHALLENGE, Challenge::LENGTH),
-    ) else {
+    let Match::Same = check_verifier(at(ledger, k), verifier) else {
         return Answer::refused(Refusal::VerifierDiffers);
     };
     let Value::New = finding::pool::check(ledger, fresh) else {
         return Answer::refused(Refusal::FreshTaken);
     };
-    redeem_at(ledger, k, time, fresh, presented)
+    token_at(ledger, k, time, fresh, presented)
 }

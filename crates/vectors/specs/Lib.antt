@@ -1,3 +1,2 @@
--- What the program of outside vectors writes and hashes.
-pub mod Texts
+-- The messages that the program of outside vectors hashes.
 pub mod Messages

@@ -1,13 +1,13 @@
 // Writes the SHA-256 digests of outside vectors, a line a message: its label, then the digest in hexadecimal and in base64url.
 // The expected lines are those of another program, tests/runs/vectors.py.
+mod digests;
 mod messages;
-mod texts;
 
+use digests::digest_hex;
+use digests::digest_text;
 use libc::STDOUT_FILENO;
 use messages::million;
 use messages::pattern;
-use texts::digest_hex;
-use texts::digest_text;
 
 // The texts of a message's digest, a column each.
 fn columns(m: &[u8]) {

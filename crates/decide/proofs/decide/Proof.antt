@@ -1,160 +1,192 @@
 use Prim.Native.Nat.{ℕ, _<_}
-use Rattle.clients.specs.Fields.{client}
-use Rattle.decide.proofs.Deciding.{decide-1, decide-2, decide-3, decide-4, decide-5, decide-6, decide-7, decide-done}
-use Rattle.desk.proofs.Told.{told}
-use Rattle.desk.proofs.Written.{found-inside, timely-lt, decide-yes, decide-no, refuses}
 use Rattle.decide.proofs.decide.Statement.{statement}
-use Rattle.desk.specs.Decide.{referenceAt}
-use Rattle.desk.specs.Limits.{outputLeast}
+use Rattle.desk.proofs.Tests.{told}
+use Rattle.desk.proofs.Turns.{nth, Come, passes, stops, all-pass}
+use Rattle.desk.proofs.Written.{found-inside, timely-lt, decide-yes, decide-no, refuses}
+use Rattle.desk.specs.Answers.{undecided}
+use Rattle.desk.specs.Checks.{Check, Verdict}
+use Rattle.desk.specs.Decide.{referencePlace, decideChecks, decideAt, decideLeaves, decide}
+use Rattle.desk.specs.Outcome.{Outcome, leftWith, concludes}
 use Rattle.desk.specs.Requests.{DecideRequest}
+use Rattle.desk.specs.declared.answer.Decided.{Decided}
 use Rattle.ledger.proofs.Told.{sound-told, time-told, life-told, found-told, found-place}
-use Rattle.ledger.specs.Checks.{untimely, isReference, expired, taken}
-use Rattle.ledger.specs.Fields.{records, rec, slots, holder}
-use Rattle.ledger.specs.Sound.{sound}
-use Rattle.octets.specs.Lists.{some}
+use Rattle.ledger.specs.Checks.{untimely, isReference}
+use Rattle.ledger.specs.Fields.{rec, slots}
 use borrow.Author.Needs.{needs}
-use lib.Dec.{eqb, ltb}
-use lib.ListN.{length}
-use mathlib.Core.Bool.{true, false, _&&_}
+use mathlib.Core.Bool.{true, false, not}
 use mathlib.Core.List.{List}
-use mathlib.Core.Path.{_≡_, sym, ap, _∙_}
+use mathlib.Core.Path.{_≡_, refl, sym, ap, _∙_}
 use Rattle.decide.proofs.decide.Tie as tie
 
 abbrev l : tie.Start → List ℕ
 l s = s .args .ledger .now
 
+abbrev out : tie.Start → List ℕ
+out s = s .args .out .now
+
 abbrev request : tie.Start → DecideRequest
 request s = record { reference = s .args .reference .now; client = s .args .client .now; yes = s .args .yes; holder = s .args .holder; fresh = s .args .fresh .now }
 
-sound-yes : (c : tie.After-enum-told) → sound (l (c .before .before .before .before .before .before)) ≡ true
-sound-yes c = sound-told _ _ (sym ((c .before .before .check) .ensures) ∙ c .enum-told .given .1)
+abbrev place : tie.Start → ℕ
+place s = referencePlace (l s) (request s)
 
-timely-yes : (c : tie.After-enum-told3) → untimely (l (c .before .before .before .before .before .before .before .before .before .before)) (c .before .before .before .before .before .before .before .before .before .before .args .time) ≡ false
-timely-yes c = time-told _ _ _ (sym ((c .before .before .check2) .ensures) ∙ c .enum-told3 .given .1)
+abbrev checks : tie.Start → List Check
+checks s = decideChecks (l s) (s .args .time) (request s) (out s) (place s)
 
-room-yes : (c : tie.After-enum-told5) → ltb (length ((c .before .before .before .before .before .before .before .before .before .before .before .before .before .before .args .out) .now)) outputLeast ≡ false
-room-yes c = told _ _ (sym ((c .before .before .room) .ensures) ∙ (c .enum-told5) .given .1)
+abbrev done : tie.Start → Outcome Decided
+done s = decideAt (l s) (s .args .time) (request s) (out s) (place s)
 
-found-yes : (c : tie.After-k) → some (isReference ((c .before .before .before .before .before .before .before .before .before .before .before .before .before .before .before .before .before .before .args .reference) .now) ((c .before .before .before .before .before .before .before .before .before .before .before .before .before .before .before .before .before .before .args .client) .now)) (records (l (c .before .before .before .before .before .before .before .before .before .before .before .before .before .before .before .before .before .before))) ≡ true
-found-yes c = found-told _ _ _ (sym ((c .before .before .reference) .ensures) ∙ (c .k) .given .1)
+abbrev outcome : tie.Start → Outcome Decided
+outcome s = decide (l s) (s .args .time) (request s) (out s)
 
-found-at : (c : tie.After-k) → referenceAt (l (c .before .before .before .before .before .before .before .before .before .before .before .before .before .before .before .before .before .before)) (request (c .before .before .before .before .before .before .before .before .before .before .before .before .before .before .before .before .before .before)) ≡ c .k .given .0 .0
-found-at c = found-place _ _ _ (sym ((c .before .before .reference) .ensures) ∙ (c .k) .given .1)
+-- the check whose turn has come fails: its row is answered
+refusal : (s : tie.Start) (n : ℕ) {a : Decided} → Come n (checks s) → nth n (checks s) .holds ≡ true → a ≡ undecided (nth n (checks s) .why)
+    → leftWith a (l s) (out s) ≡ outcome s
+unfolding decide
+refusal s n t h e = refuses e (ap (λ (v : Verdict). concludes v (decideLeaves (l s) (out s)) (done s)) (stops n (checks s) t h))
 
-inside : (c : tie.After-k) → c .k .given .0 .0 < slots (l (c .before .before .before .before .before .before .before .before .before .before .before .before .before .before .before .before .before .before))
-inside c =
-    let c18 = c .before .before .before .before .before .before .before .before .before .before .before .before .before .before .before .before .before .before in
-    found-inside (isReference ((c18 .args .reference) .now) ((c18 .args .client) .now)) _ _ (sym ((c .before .before .reference) .ensures) ∙ (c .k) .given .1)
+-- none is left: the call is done
+acceptance : (s : tie.Start) → Come 7 (checks s) → outcome s ≡ done s
+unfolding decide decideChecks
+acceptance s t = ap (λ (v : Verdict). concludes v (decideLeaves (l s) (out s)) (done s)) (all-pass 7 (checks s) t refl)
 
-record-is : (c : tie.After-at) → c .at .result .now ≡ rec (l (c .before .before .before .before .before .before .before .before .before .before .before .before .before .before .before .before .before .before .before .before .before)) (referenceAt (l (c .before .before .before .before .before .before .before .before .before .before .before .before .before .before .before .before .before .before .before .before .before)) (request (c .before .before .before .before .before .before .before .before .before .before .before .before .before .before .before .before .before .before .before .before .before)))
-record-is c =
-    let c21 = c .before .before .before .before .before .before .before .before .before .before .before .before .before .before .before .before .before .before .before .before .before in
-    c .at .ensures ∙ ap (rec (l c21)) (sym (found-at (c .before .before .before)))
+-- ---- where the check of a number has passed: the start, and that the turn has come to the next one
 
-alive-yes : (c : tie.After-enum-told8) → expired (c .before .before .before .before .before .before .before .before .before .before .before .before .before .before .before .before .before .before .before .before .before .before .before .before .args .time) (rec (l (c .before .before .before .before .before .before .before .before .before .before .before .before .before .before .before .before .before .before .before .before .before .before .before .before)) (referenceAt (l (c .before .before .before .before .before .before .before .before .before .before .before .before .before .before .before .before .before .before .before .before .before .before .before .before)) (request (c .before .before .before .before .before .before .before .before .before .before .before .before .before .before .before .before .before .before .before .before .before .before .before .before)))) ≡ false
-alive-yes c = life-told _ _ _ (rw (record-is (c .before .before .before)) at (sym ((c .before .before .check-life) .ensures) ∙ (c .enum-told8) .given .1))
+abbrev s1 : tie.After-enum-told → tie.Start
+s1 c = c .before .before .before .before .before .before
 
-holder-yes : (c : tie.After-enum-told10) → eqb (c .before .before .before .before .before .before .before .before .before .before .before .before .before .before .before .before .before .before .before .before .before .before .before .before .before .before .before .args .holder) 0 ≡ false
-holder-yes c = told _ _ (sym ((c .before .before .given) .ensures) ∙ (c .enum-told10) .given .1)
+t1 : (c : tie.After-enum-told) → Come 1 (checks (s1 c))
+unfolding decideChecks
+t1 c = passes 0 (checks (s1 c)) refl (ap not (sound-told _ _ (sym (c .before .before .check .ensures) ∙ c .enum-told .given .1)))
 
-fresh-yes : (c : tie.After-enum-told12) → ((c .before .before .before .before .before .before .before .before .before .before .before .before .before .before .before .before .before .before .before .before .before .before .before .before .before .before .before .before .before .before .before .args .yes) && taken (l (c .before .before .before .before .before .before .before .before .before .before .before .before .before .before .before .before .before .before .before .before .before .before .before .before .before .before .before .before .before .before .before)) ((c .before .before .before .before .before .before .before .before .before .before .before .before .before .before .before .before .before .before .before .before .before .before .before .before .before .before .before .before .before .before .before .args .fresh) .now)) ≡ false
-fresh-yes c = told _ _ (sym ((c .before .before .check-fresh) .ensures) ∙ (c .enum-told12) .given .1)
+abbrev s2 : tie.After-enum-told3 → tie.Start
+s2 c = s1 (c .before .before .before .before)
+
+in-time : (c : tie.After-enum-told3) → untimely (l (s2 c)) (s2 c .args .time) ≡ false
+in-time c = time-told _ _ _ (sym (c .before .before .check2 .ensures) ∙ c .enum-told3 .given .1)
+
+t2 : (c : tie.After-enum-told3) → Come 2 (checks (s2 c))
+unfolding decideChecks
+t2 c = passes 1 (checks (s2 c)) (t1 (c .before .before .before .before)) (in-time c)
+
+abbrev s20 : tie.After-enum-told5 → tie.Start
+s20 c = s2 (c .before .before .before .before)
+
+t20 : (c : tie.After-enum-told5) → Come 3 (checks (s20 c))
+unfolding decideChecks
+t20 c = passes 2 (checks (s20 c)) (t2 (c .before .before .before .before)) (told _ _ (sym (c .before .before .room .ensures) ∙ c .enum-told5 .given .1))
+
+abbrev s10 : tie.After-k → tie.Start
+s10 c = s20 (c .before .before .before .before)
+
+t10 : (c : tie.After-k) → Come 4 (checks (s10 c))
+unfolding decideChecks
+t10 c = passes 3 (checks (s10 c)) (t20 (c .before .before .before .before)) (ap not (found-told _ _ _ (sym (c .before .before .reference .ensures) ∙ c .k .given .1)))
+
+found-at : (c : tie.After-k) → place (s10 c) ≡ c .k .given .0 .0
+found-at c = found-place _ _ _ (sym (c .before .before .reference .ensures) ∙ c .k .given .1)
+
+inside : (c : tie.After-k) → c .k .given .0 .0 < slots (l (s10 c))
+inside c = found-inside (isReference (s10 c .args .reference .now) (s10 c .args .client .now)) _ _ (sym (c .before .before .reference .ensures) ∙ c .k .given .1)
+
+record-is : (c : tie.After-k) {r : List ℕ} → r ≡ rec (l (s10 c)) (c .k .given .0 .0) → r ≡ rec (l (s10 c)) (place (s10 c))
+record-is c e = e ∙ ap (rec (l (s10 c))) (sym (found-at c))
+
+abbrev s11 : tie.After-enum-told8 → tie.Start
+s11 c = s10 (c .before .before .before .before .before .before)
+
+t11 : (c : tie.After-enum-told8) → Come 5 (checks (s11 c))
+unfolding decideChecks
+t11 c = passes 4 (checks (s11 c)) (t10 (c .before .before .before .before .before .before)) (life-told _ _ _ (rw (record-is (c .before .before .before .before .before .before) (c .before .before .before .at .ensures)) at (sym (c .before .before .check-life .ensures) ∙ c .enum-told8 .given .1)))
+
+abbrev s12 : tie.After-enum-told10 → tie.Start
+s12 c = s11 (c .before .before .before)
+
+t12 : (c : tie.After-enum-told10) → Come 6 (checks (s12 c))
+unfolding decideChecks
+t12 c = passes 5 (checks (s12 c)) (t11 (c .before .before .before)) (told _ _ (sym (c .before .before .given .ensures) ∙ c .enum-told10 .given .1))
+
+abbrev s7 : tie.After-enum-told12 → tie.Start
+s7 c = s12 (c .before .before .before .before)
+
+t7 : (c : tie.After-enum-told12) → Come 7 (checks (s7 c))
+unfolding decideChecks
+t7 c = passes 6 (checks (s7 c)) (t12 (c .before .before .before .before)) (told _ _ (sym (c .before .before .check-fresh .ensures) ∙ c .enum-told12 .given .1))
+
+-- back to where the record has been found, and to where the time has passed
+abbrev k-place : tie.After-enum-told12 → tie.After-k
+k-place c = c .before .before .before .before .before .before .before .before .before .before .before .before .before
+
+abbrev time-place : tie.After-enum-told12 → tie.After-enum-told3
+time-place c = k-place c .before .before .before .before .before .before .before .before
+
+-- ---- the returns
 
 returns : tie.Need-returns
+unfolding decideChecks
 returns c =
-    let c7 = c .before .before .before .before .before .before .before in
-    refuses ((c .refused) .ensures) (decide-1 (l c7) (c7 .args .time) (request c7) ((c7 .args .out) .now) (sound-told _ _ (sym ((c .before .before .before .check) .ensures) ∙ (c .before .enum-told2) .given .1)))
+    let b = c .before .before .before .before .before .before .before in
+    refusal (b) 0 refl (ap not (sound-told _ _ (sym (c .before .before .before .check .ensures) ∙ c .before .enum-told2 .given .1))) (c .refused .ensures)
 
 returns-2 : tie.Need-returns-2
+unfolding decideChecks
 returns-2 c =
-    let c5 = c .before .before .before .before .before in
-    let c11 = c5 .before .before .before .before .before .before in
-    refuses ((c .refused2) .ensures) (decide-2 (l c11) (c11 .args .time) (request c11) ((c11 .args .out) .now) (sound-yes c5) (time-told _ _ _ (sym ((c .before .before .before .check2) .ensures) ∙ (c .before .enum-told4) .given .1)))
+    let b = c .before .before .before .before .before in
+    refusal (s1 b) 1 (t1 b) (time-told _ _ _ (sym (c .before .before .before .check2 .ensures) ∙ c .before .enum-told4 .given .1)) (c .refused2 .ensures)
 
 returns-3 : tie.Need-returns-3
+unfolding decideChecks
 returns-3 c =
-    let c5 = c .before .before .before .before .before in
-    let c9 = c5 .before .before .before .before in
-    let c15 = c9 .before .before .before .before .before .before in
-    refuses ((c .refused3) .ensures) (decide-3 (l c15) (c15 .args .time) (request c15) ((c15 .args .out) .now) (sound-yes c9) (timely-yes c5) (told _ _ (sym ((c .before .before .before .room) .ensures) ∙ (c .before .enum-told6) .given .1)))
+    let b = c .before .before .before .before .before in
+    refusal (s2 b) 2 (t2 b) (told _ _ (sym (c .before .before .before .room .ensures) ∙ c .before .enum-told6 .given .1)) (c .refused3 .ensures)
 
 returns-4 : tie.Need-returns-4
+unfolding decideChecks
 returns-4 c =
-    let c5 = c .before .before .before .before .before in
-    let c9 = c5 .before .before .before .before in
-    let c13 = c9 .before .before .before .before in
-    let c19 = c13 .before .before .before .before .before .before in
-    refuses ((c .refused4) .ensures) (decide-4 (l c19) (c19 .args .time) (request c19) ((c19 .args .out) .now) (sound-yes c13) (timely-yes c9) (room-yes c5) (found-told _ _ _ (sym ((c .before .before .before .reference) .ensures) ∙ (c .before .enum-told7) .given .1)))
+    let b = c .before .before .before .before .before in
+    refusal (s20 b) 3 (t20 b) (ap not (found-told _ _ _ (sym (c .before .before .before .reference .ensures) ∙ c .before .enum-told7 .given .1))) (c .refused4 .ensures)
 
 returns-5 : tie.Need-returns-5
+unfolding decideChecks
 returns-5 c =
-    let c4 = c .before .before .before .before in
-    let c7 = c4 .before .before .before in
-    let c11 = c7 .before .before .before .before in
-    let c15 = c11 .before .before .before .before in
-    let c19 = c15 .before .before .before .before in
-    let c25 = c19 .before .before .before .before .before .before in
-    refuses ((c .refused5) .ensures) (decide-5 (l c25) (c25 .args .time) (request c25) ((c25 .args .out) .now) (sound-yes c19) (timely-yes c15) (room-yes c11) (found-yes c7) (life-told _ _ _ (rw (record-is c4) at (sym ((c .before .before .before .check-life) .ensures) ∙ (c .before .enum-told9) .given .1))))
+    let b = c .before .before .before .before .before .before .before in
+    refusal (s10 b) 4 (t10 b) (life-told _ _ _ (rw (record-is b (c .before .before .before .before .at .ensures)) at (sym (c .before .before .before .check-life .ensures) ∙ c .before .enum-told9 .given .1))) (c .refused5 .ensures)
 
 returns-6 : tie.Need-returns-6
+unfolding decideChecks
 returns-6 c =
-    let c4 = c .before .before .before .before in
-    let c10 = c4 .before .before .before .before .before .before in
-    let c14 = c10 .before .before .before .before in
-    let c18 = c14 .before .before .before .before in
-    let c22 = c18 .before .before .before .before in
-    let c28 = c22 .before .before .before .before .before .before in
-    refuses ((c .refused6) .ensures) (decide-6 (l c28) (c28 .args .time) (request c28) ((c28 .args .out) .now) (sound-yes c22) (timely-yes c18) (room-yes c14) (found-yes c10) (alive-yes c4) (told _ _ (sym ((c .before .before .before .given) .ensures) ∙ (c .before .enum-told11) .given .1)))
+    let b = c .before .before .before .before in
+    refusal (s11 b) 5 (t11 b) (told _ _ (sym (c .before .before .before .given .ensures) ∙ c .before .enum-told11 .given .1)) (c .refused6 .ensures)
 
 returns-7 : tie.Need-returns-7
+unfolding decideChecks
 returns-7 c =
-    let c5 = c .before .before .before .before .before in
-    let c8 = c5 .before .before .before in
-    let c14 = c8 .before .before .before .before .before .before in
-    let c18 = c14 .before .before .before .before in
-    let c22 = c18 .before .before .before .before in
-    let c26 = c22 .before .before .before .before in
-    let c32 = c26 .before .before .before .before .before .before in
-    refuses ((c .refused7) .ensures) (decide-7 (l c32) (c32 .args .time) (request c32) ((c32 .args .out) .now) (sound-yes c26) (timely-yes c22) (room-yes c18) (found-yes c14) (alive-yes c8) (holder-yes c5) (told _ _ (sym ((c .before .before .before .check-fresh) .ensures) ∙ (c .before .enum-told13) .given .1)))
+    let b = c .before .before .before .before .before in
+    refusal (s12 b) 6 (t12 b) (told _ _ (sym (c .before .before .before .check-fresh .ensures) ∙ c .before .enum-told13 .given .1)) (c .refused7 .ensures)
 
-consent-requires : tie.Need-consent-requires
-consent-requires c κs =
-    let c16 = c .before .before .before .before .before .before .before .before .before .before .before .before .before .before .before .before in
-    let c24 = c16 .before .before .before .before .before .before .before .before in
-    ((inside c16), timely-lt _ _ (timely-yes c24))
+consent-at-requires : tie.Need-consent-at-requires
+consent-at-requires c κs =
+    let b = c .before .before .before in
+    (inside (k-place b), timely-lt _ _ (in-time (time-place b)))
 
 returns-8 : tie.Need-returns-8
 returns-8 c =
-    let c4 = c .before .before .before .before in
-    let c7 = c4 .before .before .before in
-    let c8 = c7 .before in
-    let c12 = c8 .before .before .before .before in
-    let c15 = c12 .before .before .before in
-    let c21 = c15 .before .before .before .before .before .before in
-    let c25 = c21 .before .before .before .before in
-    let c29 = c25 .before .before .before .before in
-    let c33 = c29 .before .before .before .before in
-    let c39 = c33 .before .before .before .before .before .before in
-    ((c4 .consent) .ensures) ∙ sym (decide-done (l c39) (c39 .args .time) (request c39) ((c39 .args .out) .now) (sound-yes c33) (timely-yes c29) (room-yes c25) (found-yes c21) (alive-yes c15) (holder-yes c12) (fresh-yes c8) ∙ decide-yes (l c39) (c39 .args .time) (request c39) ((c39 .args .out) .now) _ ((c7 .if1) .taken) (found-at c21))
+    let i = c .before .before .before .before .before .before .before in
+    let b = i .before in
+    let s = s7 b in
+    c .before .before .before .before .consent-at .ensures
+    ∙ sym (acceptance s (t7 b) ∙ decide-yes (l s) (s .args .time) (request s) (out s) _ (i .if1 .taken) (found-at (k-place b)))
 
-refuse-requires : tie.Need-refuse-requires
-refuse-requires c κs =
-    let c16 = c .before .before .before .before .before .before .before .before .before .before .before .before .before .before .before .before in
-    (inside c16)
+decline-at-requires : tie.Need-decline-at-requires
+decline-at-requires c κs = inside (k-place (c .before .before .before))
 
 returns-9 : tie.Need-returns-9
 returns-9 c =
-    let c4 = c .before .before .before .before in
-    let c7 = c4 .before .before .before in
-    let c8 = c7 .before in
-    let c12 = c8 .before .before .before .before in
-    let c15 = c12 .before .before .before in
-    let c21 = c15 .before .before .before .before .before .before in
-    let c25 = c21 .before .before .before .before in
-    let c29 = c25 .before .before .before .before in
-    let c33 = c29 .before .before .before .before in
-    let c39 = c33 .before .before .before .before .before .before in
-    ((c4 .refuse) .ensures) ∙ sym (decide-done (l c39) (c39 .args .time) (request c39) ((c39 .args .out) .now) (sound-yes c33) (timely-yes c29) (room-yes c25) (found-yes c21) (alive-yes c15) (holder-yes c12) (fresh-yes c8) ∙ decide-no (l c39) (c39 .args .time) (request c39) ((c39 .args .out) .now) _ ((c7 .if1) .left) (found-at c21))
+    let i = c .before .before .before .before .before .before .before in
+    let b = i .before in
+    let s = s7 b in
+    c .before .before .before .before .decline-at .ensures
+    ∙ sym (acceptance s (t7 b) ∙ decide-no (l s) (s .args .time) (request s) (out s) _ (i .if1 .left) (found-at (k-place b)))
 
 pub decide-spec : {M : Type 1} → statement M
 decide-spec =
@@ -208,11 +240,11 @@ decide-spec =
     (search needs)
     (search needs)
     returns-7
-    consent-requires
+    consent-at-requires
     (search needs)
     (search needs)
     returns-8
-    refuse-requires
+    decline-at-requires
     (search needs)
     (search needs)
     returns-9)

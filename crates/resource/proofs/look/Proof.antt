@@ -1,25 +1,22 @@
 use Prim.Native.Nat.{ℕ}
-use Rattle.resource.proofs.Looking.{look-1, look-2, look-3, look-4, look-5, look-6, look-7, look-done}
-use Rattle.desk.proofs.Told.{told, scope-told}
-use Rattle.resource.proofs.look.Statement.{statement}
+use Rattle.desk.proofs.Tests.{told}
+use Rattle.desk.proofs.Turns.{nth, Come, passes, stops, all-pass}
 use Rattle.desk.specs.Answers.{answerOf}
-use Rattle.desk.specs.Checks.{scopeFits}
+use Rattle.desk.specs.Checks.{Check, Verdict, scopeFits}
 use Rattle.desk.specs.Requests.{ResourceRequest}
-use Rattle.desk.specs.Resource.{tokenPlace}
-use Rattle.desk.specs.Told.{toldScope}
-use Rattle.desk.specs.declared.answer.Reading.the-variants.{Granted}
+use Rattle.desk.specs.Resource.{tokenPlace, resourceChecks, readBy, look}
+use Rattle.desk.specs.Tests.{failsWhen}
+use Rattle.desk.specs.declared.answer.Reading.{Reading}
+use Rattle.desk.specs.declared.answer.Reading.the-variants.{Granted, Refused}
+use Rattle.desk.specs.declared.check.Test.{Test}
 use Rattle.ledger.proofs.Told.{sound-told, time-told, life-told, found-told, found-place}
-use Rattle.ledger.specs.Checks.{untimely, isToken, expired}
-use Rattle.ledger.specs.Fields.{records, rec, scope, holder, boundKey}
-use Rattle.ledger.specs.Sound.{sound}
-use Rattle.octets.specs.Lists.{some}
-use Rattle.octets.specs.Parts.{same}
+use Rattle.ledger.specs.Checks.{untimely}
+use Rattle.ledger.specs.Fields.{rec, scope}
+use Rattle.resource.proofs.look.Statement.{statement}
 use borrow.Author.Needs.{needs}
-use borrow.Author.Tests.{not-true, not-false}
-use lib.Dec.{eqb}
 use mathlib.Core.Bool.{true, false, not}
 use mathlib.Core.List.{List}
-use mathlib.Core.Path.{_≡_, sym, ap, _∙_}
+use mathlib.Core.Path.{_≡_, refl, sym, ap, _∙_}
 use Rattle.resource.proofs.look.Tie as tie
 
 abbrev l : tie.Start → List ℕ
@@ -28,110 +25,143 @@ l s = s .args .ledger .now
 abbrev request : tie.Start → ResourceRequest
 request s = record { token = s .args .token .now; presented = s .args .presented .now; scope = s .args .scope; holder = s .args .holder }
 
-sound-yes : (c : tie.After-enum-told) → sound (l (c .before .before .before .before)) ≡ true
-sound-yes c = sound-told _ _ (sym ((c .before .before .check) .ensures) ∙ c .enum-told .given .1)
+abbrev place : tie.Start → ℕ
+place s = tokenPlace (l s) (request s)
 
-timely-yes : (c : tie.After-enum-told3) → untimely (l (c .before .before .before .before .before .before .before)) (c .before .before .before .before .before .before .before .args .time) ≡ false
-timely-yes c = time-told _ _ _ (sym ((c .before .before .check2) .ensures) ∙ c .enum-told3 .given .1)
+abbrev found-record : tie.Start → List ℕ
+found-record s = rec (l s) (place s)
 
-found-yes : (c : tie.After-k) → some (isToken ((c .before .before .before .before .before .before .before .before .before .before .args .token) .now)) (records (l (c .before .before .before .before .before .before .before .before .before .before))) ≡ true
-found-yes c = found-told _ _ _ (sym ((c .before .before .token) .ensures) ∙ (c .k) .given .1)
+abbrev checks : tie.Start → List Check
+checks s = resourceChecks (l s) (s .args .time) (request s) (place s)
 
-found-at : (c : tie.After-k) → tokenPlace (l (c .before .before .before .before .before .before .before .before .before .before)) (request (c .before .before .before .before .before .before .before .before .before .before)) ≡ c .k .given .0 .0
-found-at c = found-place _ _ _ (sym ((c .before .before .token) .ensures) ∙ (c .k) .given .1)
+abbrev outcome : tie.Start → Reading
+outcome s = look (l s) (s .args .time) (request s)
 
-record-is : (c : tie.After-at) → c .at .result .now ≡ rec (l (c .before .before .before .before .before .before .before .before .before .before .before .before)) (tokenPlace (l (c .before .before .before .before .before .before .before .before .before .before .before .before)) (request (c .before .before .before .before .before .before .before .before .before .before .before .before)))
-record-is c =
-    let c12 = c .before .before .before .before .before .before .before .before .before .before .before .before in
-    c .at .ensures ∙ ap (rec (l c12)) (sym (found-at (c .before .before)))
+-- the check whose turn has come fails: its row is answered
+refusal : (s : tie.Start) (n : ℕ) → Come n (checks s) → nth n (checks s) .holds ≡ true → Refused (nth n (checks s) .why) ≡ outcome s
+unfolding look
+refusal s n t h = sym (ap (λ (v : Verdict). readBy v (found-record s)) (stops n (checks s) t h))
 
-alive-yes : (c : tie.After-enum-told6) → expired (c .before .before .before .before .before .before .before .before .before .before .before .before .before .before .before .args .time) (rec (l (c .before .before .before .before .before .before .before .before .before .before .before .before .before .before .before)) (tokenPlace (l (c .before .before .before .before .before .before .before .before .before .before .before .before .before .before .before)) (request (c .before .before .before .before .before .before .before .before .before .before .before .before .before .before .before)))) ≡ false
-alive-yes c = life-told _ _ _ (rw (record-is (c .before .before .before)) at (sym ((c .before .before .check-life) .ensures) ∙ (c .enum-told6) .given .1))
+-- none is left: the reading is granted
+acceptance : (s : tie.Start) → Come 7 (checks s) → outcome s ≡ Granted (answerOf (found-record s))
+unfolding look resourceChecks
+acceptance s t = ap (λ (v : Verdict). readBy v (found-record s)) (all-pass 7 (checks s) t refl)
 
-key-yes : (c : tie.After-enum-told8) → not (same (boundKey (rec (l (c .before .before .before .before .before .before .before .before .before .before .before .before .before .before .before .before .before .before)) (tokenPlace (l (c .before .before .before .before .before .before .before .before .before .before .before .before .before .before .before .before .before .before)) (request (c .before .before .before .before .before .before .before .before .before .before .before .before .before .before .before .before .before .before))))) ((c .before .before .before .before .before .before .before .before .before .before .before .before .before .before .before .before .before .before .args .presented) .now)) ≡ false
-key-yes c =
-    let c6 = c .before .before .before .before .before .before in
-    let c18 = c6 .before .before .before .before .before .before .before .before .before .before .before .before in
-    told (not (same (boundKey (rec (l c18) (tokenPlace (l c18) (request c18)))) ((c18 .args .presented) .now))) _ (rw (record-is c6) at (sym ((c .before .before .bound) .ensures) ∙ (c .enum-told8) .given .1))
+-- ---- where the check of a number has passed: the start, and that the turn has come to the next one
 
-scope-yes : (c : tie.After-enum-told10) → scopeFits (c .before .before .before .before .before .before .before .before .before .before .before .before .before .before .before .before .before .before .before .before .before .before .args .scope) (scope (rec (l (c .before .before .before .before .before .before .before .before .before .before .before .before .before .before .before .before .before .before .before .before .before .before)) (tokenPlace (l (c .before .before .before .before .before .before .before .before .before .before .before .before .before .before .before .before .before .before .before .before .before .before)) (request (c .before .before .before .before .before .before .before .before .before .before .before .before .before .before .before .before .before .before .before .before .before .before))))) ≡ true
-scope-yes c =
-    let c10 = c .before .before .before .before .before .before .before .before .before .before in
-    let c22 = c10 .before .before .before .before .before .before .before .before .before .before .before .before in
-    scope-told _ _ _ (ap (toldScope (c22 .args .scope)) (sym (rw (record-is c10) at ((c .before .before .before .scope) .ensures))) ∙ sym ((c .before .before .scope2) .ensures) ∙ (c .enum-told10) .given .1)
+abbrev s1 : tie.After-enum-told → tie.Start
+s1 c = c .before .before .before .before
 
-holder-yes : (c : tie.After-enum-told12) → not (eqb (holder (rec (l (c .before .before .before .before .before .before .before .before .before .before .before .before .before .before .before .before .before .before .before .before .before .before .before .before .before)) (tokenPlace (l (c .before .before .before .before .before .before .before .before .before .before .before .before .before .before .before .before .before .before .before .before .before .before .before .before .before)) (request (c .before .before .before .before .before .before .before .before .before .before .before .before .before .before .before .before .before .before .before .before .before .before .before .before .before))))) (c .before .before .before .before .before .before .before .before .before .before .before .before .before .before .before .before .before .before .before .before .before .before .before .before .before .args .holder)) ≡ false
-holder-yes c =
-    let c13 = c .before .before .before .before .before .before .before .before .before .before .before .before .before in
-    let c25 = c13 .before .before .before .before .before .before .before .before .before .before .before .before in
-    told (not (eqb (holder (rec (l c25) (tokenPlace (l c25) (request c25)))) (c25 .args .holder))) _ (rw (record-is c13) at (sym ((c .before .before .held) .ensures) ∙ (c .enum-told12) .given .1))
+t1 : (c : tie.After-enum-told) → Come 1 (checks (s1 c))
+unfolding resourceChecks
+t1 c = passes 0 (checks (s1 c)) refl (ap not (sound-told _ _ (sym (c .before .before .check .ensures) ∙ c .enum-told .given .1)))
+
+abbrev s2 : tie.After-enum-told3 → tie.Start
+s2 c = s1 (c .before .before .before)
+
+in-time : (c : tie.After-enum-told3) → untimely (l (s2 c)) (s2 c .args .time) ≡ false
+in-time c = time-told _ _ _ (sym (c .before .before .check2 .ensures) ∙ c .enum-told3 .given .1)
+
+t2 : (c : tie.After-enum-told3) → Come 2 (checks (s2 c))
+unfolding resourceChecks
+t2 c = passes 1 (checks (s2 c)) (t1 (c .before .before .before)) (in-time c)
+
+abbrev s17 : tie.After-k → tie.Start
+s17 c = s2 (c .before .before .before)
+
+t17 : (c : tie.After-k) → Come 3 (checks (s17 c))
+unfolding resourceChecks
+t17 c = passes 2 (checks (s17 c)) (t2 (c .before .before .before)) (ap not (found-told _ _ _ (sym (c .before .before .token .ensures) ∙ c .k .given .1)))
+
+abbrev sr : tie.After-at → tie.Start
+sr c = s17 (c .before .before)
+
+record-is : (c : tie.After-at) → c .at .result .now ≡ found-record (sr c)
+record-is c = c .at .ensures ∙ ap (rec (l (sr c))) (sym (found-place _ _ _ (sym (c .before .before .before .before .token .ensures) ∙ c .before .before .k .given .1)))
+
+-- ---- from the record on, each place knows the one where the record was taken
+
+abbrev r11 : tie.After-enum-told6 → tie.After-at
+r11 c = c .before .before .before
+
+t11 : (c : tie.After-enum-told6) → Come 4 (checks (sr (r11 c)))
+unfolding resourceChecks
+t11 c = passes 3 (checks (sr (r11 c))) (t17 (c .before .before .before .before .before)) (life-told _ _ _ (rw (record-is (r11 c)) at (sym (c .before .before .check-life .ensures) ∙ c .enum-told6 .given .1)))
+
+abbrev r18 : tie.After-enum-told8 → tie.After-at
+r18 c = r11 (c .before .before .before)
+
+t18 : (c : tie.After-enum-told8) → Come 5 (checks (sr (r18 c)))
+unfolding resourceChecks
+t18 c = passes 4 (checks (sr (r18 c))) (t11 (c .before .before .before)) (told (nth 4 (checks (sr (r18 c))) .holds) _ (rw (record-is (r18 c)) at (sym (c .before .before .bound .ensures) ∙ c .enum-told8 .given .1)))
+
+-- the granted bits are the record's
+bits : (c : tie.After-at) {n : ℕ} {a b : Test} → n ≡ scope (c .at .result .now) → a ≡ failsWhen (not (scopeFits (sr c .args .scope) n)) → a ≡ b
+    → failsWhen (not (scopeFits (sr c .args .scope) (scope (found-record (sr c))))) ≡ b
+bits c h e f = ap (λ (n : ℕ). failsWhen (not (scopeFits (sr c .args .scope) n))) (sym (h ∙ ap scope (record-is c))) ∙ sym e ∙ f
+
+abbrev r6 : tie.After-enum-told10 → tie.After-at
+r6 c = r18 (c .before .before .before .before)
+
+t6 : (c : tie.After-enum-told10) → Come 6 (checks (sr (r6 c)))
+unfolding resourceChecks
+t6 c = passes 5 (checks (sr (r6 c))) (t18 (c .before .before .before .before)) (told (nth 5 (checks (sr (r6 c))) .holds) _ (bits (r6 c) (c .before .before .before .scope .ensures) (c .before .before .within .ensures) (c .enum-told10 .given .1)))
+
+abbrev r19 : tie.After-enum-told12 → tie.After-at
+r19 c = r6 (c .before .before .before)
+
+t19 : (c : tie.After-enum-told12) → Come 7 (checks (sr (r19 c)))
+unfolding resourceChecks
+t19 c = passes 6 (checks (sr (r19 c))) (t6 (c .before .before .before)) (told (nth 6 (checks (sr (r19 c))) .holds) _ (rw (record-is (r19 c)) at (sym (c .before .before .held .ensures) ∙ c .enum-told12 .given .1)))
+
+-- ---- the returns
 
 returns : tie.Need-returns
+unfolding resourceChecks
 returns c =
-    let c4 = c .before .before .before .before in
-    sym (look-1 (l c4) (c4 .args .time) (request c4) (sound-told _ _ (sym ((c .before .before .check) .ensures) ∙ (c .enum-told2) .given .1)))
+    let b = c .before .before .before .before in
+    refusal (b) 0 refl (ap not (sound-told _ _ (sym (c .before .before .check .ensures) ∙ c .enum-told2 .given .1)))
 
 returns-2 : tie.Need-returns-2
+unfolding resourceChecks
 returns-2 c =
-    let c7 = c .before .before .before .before .before .before .before in
-    sym (look-2 (l c7) (c7 .args .time) (request c7) (sound-yes (c .before .before .before)) (time-told _ _ _ (sym ((c .before .before .check2) .ensures) ∙ (c .enum-told4) .given .1)))
+    let b = c .before .before .before in
+    refusal (s1 b) 1 (t1 b) (time-told _ _ _ (sym (c .before .before .check2 .ensures) ∙ c .enum-told4 .given .1))
 
 returns-3 : tie.Need-returns-3
+unfolding resourceChecks
 returns-3 c =
-    let c6 = c .before .before .before .before .before .before in
-    let c10 = c6 .before .before .before .before in
-    sym (look-3 (l c10) (c10 .args .time) (request c10) (sound-yes c6) (timely-yes (c .before .before .before)) (found-told _ _ _ (sym ((c .before .before .token) .ensures) ∙ (c .enum-told5) .given .1)))
+    let b = c .before .before .before in
+    refusal (s2 b) 2 (t2 b) (ap not (found-told _ _ _ (sym (c .before .before .token .ensures) ∙ c .enum-told5 .given .1)))
 
 returns-4 : tie.Need-returns-4
+unfolding resourceChecks
 returns-4 c =
-    let c5 = c .before .before .before .before .before in
-    let c8 = c5 .before .before .before in
-    let c11 = c8 .before .before .before in
-    let c15 = c11 .before .before .before .before in
-    sym (look-4 (l c15) (c15 .args .time) (request c15) (sound-yes c11) (timely-yes c8) (found-yes c5) (life-told _ _ _ (rw (record-is (c .before .before .before)) at (sym ((c .before .before .check-life) .ensures) ∙ (c .enum-told7) .given .1))))
+    let b = c .before .before .before in
+    refusal (sr b) 3 (t17 (b .before .before)) (life-told _ _ _ (rw (record-is b) at (sym (c .before .before .check-life .ensures) ∙ c .enum-told7 .given .1)))
 
 returns-5 : tie.Need-returns-5
+unfolding resourceChecks
 returns-5 c =
-    let c6 = c .before .before .before .before .before .before in
-    let c8 = c6 .before .before in
-    let c11 = c8 .before .before .before in
-    let c14 = c11 .before .before .before in
-    let c18 = c14 .before .before .before .before in
-    sym (look-5 (l c18) (c18 .args .time) (request c18) (sound-yes c14) (timely-yes c11) (found-yes c8) (alive-yes (c .before .before .before)) (not-true _ (told (not (same (boundKey (rec (l c18) (tokenPlace (l c18) (request c18)))) ((c18 .args .presented) .now))) _ (rw (record-is c6) at (sym ((c .before .before .bound) .ensures) ∙ (c .enum-told9) .given .1)))))
+    let b = c .before .before .before in
+    refusal (sr (r11 b)) 4 (t11 b) (told (nth 4 (checks (sr (r11 b))) .holds) _ (rw (record-is (r11 b)) at (sym (c .before .before .bound .ensures) ∙ c .enum-told9 .given .1)))
 
 returns-6 : tie.Need-returns-6
+unfolding resourceChecks
 returns-6 c =
-    let c4 = c .before .before .before .before in
-    let c7 = c4 .before .before .before in
-    let c10 = c7 .before .before .before in
-    let c12 = c10 .before .before in
-    let c15 = c12 .before .before .before in
-    let c18 = c15 .before .before .before in
-    let c22 = c18 .before .before .before .before in
-    sym (look-6 (l c22) (c22 .args .time) (request c22) (sound-yes c18) (timely-yes c15) (found-yes c12) (alive-yes c7) (not-false _ (key-yes c4)) (scope-told _ _ _ (ap (toldScope (c22 .args .scope)) (sym (rw (record-is c10) at ((c .before .before .before .scope) .ensures))) ∙ sym ((c .before .before .scope2) .ensures) ∙ (c .enum-told11) .given .1)))
+    let b = c .before .before .before .before in
+    refusal (sr (r18 b)) 5 (t18 b) (told (nth 5 (checks (sr (r18 b))) .holds) _ (bits (r18 b) (c .before .before .before .scope .ensures) (c .before .before .within .ensures) (c .enum-told11 .given .1)))
 
 returns-7 : tie.Need-returns-7
+unfolding resourceChecks
 returns-7 c =
-    let c7 = c .before .before .before .before .before .before .before in
-    let c10 = c7 .before .before .before in
-    let c13 = c10 .before .before .before in
-    let c15 = c13 .before .before in
-    let c18 = c15 .before .before .before in
-    let c21 = c18 .before .before .before in
-    let c25 = c21 .before .before .before .before in
-    sym (look-7 (l c25) (c25 .args .time) (request c25) (sound-yes c21) (timely-yes c18) (found-yes c15) (alive-yes c10) (not-false _ (key-yes c7)) (scope-yes (c .before .before .before)) (not-true _ (told (not (eqb (holder (rec (l c25) (tokenPlace (l c25) (request c25)))) (c25 .args .holder))) _ (rw (record-is c13) at (sym ((c .before .before .held) .ensures) ∙ (c .enum-told13) .given .1)))))
+    let b = c .before .before .before in
+    refusal (sr (r6 b)) 6 (t6 b) (told (nth 6 (checks (sr (r6 b))) .holds) _ (rw (record-is (r6 b)) at (sym (c .before .before .held .ensures) ∙ c .enum-told13 .given .1)))
 
 returns-8 : tie.Need-returns-8
 returns-8 c =
-    let c4 = c .before .before .before .before in
-    let c8 = c4 .before .before .before .before in
-    let c11 = c8 .before .before .before in
-    let c14 = c11 .before .before .before in
-    let c16 = c14 .before .before in
-    let c19 = c16 .before .before .before in
-    let c22 = c19 .before .before .before in
-    let c26 = c22 .before .before .before .before in
-    ap Granted ((c .of) .ensures ∙ ap answerOf (record-is c14)) ∙ sym (look-done (l c26) (c26 .args .time) (request c26) (sound-yes c22) (timely-yes c19) (found-yes c16) (alive-yes c11) (not-false _ (key-yes c8)) (scope-yes c4) (not-false _ (holder-yes (c .before))))
+    let b = c .before in
+    ap Granted (c .of .ensures ∙ ap answerOf (record-is (r19 b))) ∙ sym (acceptance (sr (r19 b)) (t19 b))
 
 pub look-spec : {M : Type 1} → statement M
 look-spec =

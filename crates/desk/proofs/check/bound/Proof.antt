@@ -1,15 +1,15 @@
 use Rattle.desk.proofs.check.bound.Statement.{statement}
-use Rattle.desk.specs.Told.{toldIf}
+use Rattle.desk.specs.Tests.{failsWhen}
 use borrow.Author.Needs.{needs}
 use mathlib.Core.Path.{sym}
 use Rattle.desk.proofs.check.bound.Tie as tie
 
 returns : tie.Need-returns
-unfolding toldIf
+unfolding failsWhen
 returns c = rw (sym (c .before .before .before .bound-key .ensures), sym (c .before .same .ensures), c .if1 .taken)
 
 returns-2 : tie.Need-returns-2
-unfolding toldIf
+unfolding failsWhen
 returns-2 c = rw (sym (c .before .before .before .bound-key .ensures), sym (c .before .same .ensures), c .if1 .left)
 
 pub bound-spec : {M : Type 1} → statement M

@@ -1,14 +1,14 @@
 use Rattle.desk.proofs.check.number.Statement.{statement}
-use Rattle.desk.specs.Told.{toldIf}
+use Rattle.desk.specs.Tests.{failsWhen}
 use borrow.Author.Tests.{eq-eqb, ne-eqb}
 use Rattle.desk.proofs.check.number.Tie as tie
 
 returns : tie.Need-returns
-unfolding toldIf
+unfolding failsWhen
 returns c = rw (eq-eqb _ _ (c .if1 .taken))
 
 returns-2 : tie.Need-returns-2
-unfolding toldIf
+unfolding failsWhen
 returns-2 c = rw (ne-eqb _ _ (c .if1 .left))
 
 pub number-spec : {M : Type 1} → statement M

@@ -1,5 +1,5 @@
 use Rattle.desk.proofs.check.texts.Statement.{statement}
-use Rattle.desk.specs.Told.{toldIf, toldTexts}
+use Rattle.desk.specs.Tests.{failsWhen, textsTest}
 use Rattle.forms.proofs.Laws.{redirect-well, redirect-ill, challenge-well, challenge-ill}
 use borrow.Author.Needs.{needs}
 use mathlib.Core.Bool.{and-false}
@@ -7,15 +7,15 @@ use mathlib.Core.Path.{sym, _∙_}
 use Rattle.desk.proofs.check.texts.Tie as tie
 
 returns : tie.Need-returns
-unfolding toldTexts toldIf
+unfolding textsTest failsWhen
 returns c = rw (redirect-ill _ (sym (c .before .before .check .ensures) ∙ c .enum-told2 .given .1))
 
 returns-2 : tie.Need-returns-2
-unfolding toldTexts toldIf
+unfolding textsTest failsWhen
 returns-2 c = rw (challenge-ill _ (sym (c .before .before .check2 .ensures) ∙ c .enum-told4 .given .1), and-false)
 
 returns-3 : tie.Need-returns-3
-unfolding toldTexts toldIf
+unfolding textsTest failsWhen
 returns-3 c = rw (redirect-well _ (sym (c .before .before .before .before .before .check .ensures) ∙ c .before .before .before .enum-told .given .1), challenge-well _ (sym (c .before .before .check2 .ensures) ∙ c .enum-told3 .given .1))
 
 pub texts-spec : {M : Type 1} → statement M

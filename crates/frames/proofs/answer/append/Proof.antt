@@ -1,4 +1,4 @@
-use Rattle.frames.proofs.Answers.{put-front}
+use Rattle.wire.proofs.Answers.{put-front}
 use Rattle.frames.proofs.answer.append.Statement.{statement}
 use borrow.Author.Needs.{needs}
 use mathlib.Core.Path.{refl}

@@ -1,64 +1,19 @@
-use Prim.Native.Nat.{_-_}
-use Rattle.s256.proofs.Written.{Written, written-none, written-more, written-all}
+use Rattle.forms.specs.Limits.{challengeLength}
+use Rattle.texts.specs.Base64url.{base64url}
+use lib.ListN.{length, replicate}
+use mathlib.Core.Path.{_≡_}
+use Rattle.texts.proofs.Over.{put-all}
 use Rattle.s256.proofs.base64url.base64url.Statement.{statement}
+use Rattle.texts.proofs.Letters.{length-base64url}
 use borrow.Author.Needs.{needs}
-use mathlib.Core.Path.{refl}
+use native.Mathlib.Omega.{arith}
 use Rattle.s256.proofs.base64url.base64url.Tie as tie
 
-abbrev Inv-loop : tie.InvT-loop
-Inv-loop bs out₀ k₀ out k = Written bs out k
-
-abbrev μ-loop : tie.MeasureT-loop
-μ-loop bs out₀ k₀ out k = 10 - k
-
-loop-holds : tie.Need-loop-holds Inv-loop μ-loop
-loop-holds c = written-none _ _ refl
-
-loop-again : tie.Need-loop-again Inv-loop μ-loop
-loop-again c =
-    let q = c .before .before .before .before in
-    let i = q .before .before .loop in
-    written-more _ (i .out) (i .k) _ _ (search needs) (i .inv) (search needs) (q .characters .ensures) (c .before .copy .ensures)
-
-returns : tie.Need-returns Inv-loop μ-loop
+returns : tie.Need-returns
 returns c =
-    let q = c .before .before .before .before in
-    let i = q .before .before .loop in
-    written-all _ (i .out) (i .k) _ _ (search needs) (i .inv) (search needs) (q .characters2 .ensures) (c .before .copy2 .ensures)
+    let bs = c .before .before .before .before .args .t1 in
+    let n : length (base64url bs) ≡ challengeLength = omega (arith, length-base64url bs) in
+    put-all (replicate challengeLength 0) (base64url bs) n (c .before .write .ensures .1)
 
 pub base64url-spec : {M : Type 1} → statement M
-base64url-spec =
-    tie.close
-    (tie.spec
-    Inv-loop
-    μ-loop
-    loop-holds
-    (search needs)
-    (search needs)
-    (search needs)
-    (search needs)
-    (search needs)
-    (search needs)
-    (search needs)
-    (search needs)
-    (search needs)
-    (search needs)
-    (search needs)
-    (search needs)
-    (search needs)
-    (search needs)
-    (search needs)
-    (search needs)
-    (search needs)
-    (search needs)
-    (search needs)
-    loop-again
-    (search needs)
-    (search needs)
-    (search needs)
-    (search needs)
-    (search needs)
-    (search needs)
-    (search needs)
-    (search needs)
-    returns)
+base64url-spec = tie.close (tie.spec (search needs) (search needs) (λ c κs. search needs) returns)

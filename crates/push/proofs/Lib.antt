@@ -1,2 +1,0 @@
--- The laws of push.
-mod Pushing

@@ -1,2 +1,0 @@
--- The laws of resource.
-mod Looking

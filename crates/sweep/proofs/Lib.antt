@@ -1,2 +1,0 @@
--- The laws of sweep.
-mod Sweeping

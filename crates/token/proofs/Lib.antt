@@ -1,2 +1,0 @@
--- The laws of token.
-mod Redeeming
