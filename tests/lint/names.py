@@ -9,7 +9,7 @@
   record, field, data type or ruleset; in other files a string that occurs. Names, no lines: `line 12` behind a citation is a finding.
 - A block fenced as ```antt path``` stands in that file, word for word.
 - A link, [text](path#heading), leads to a file or folder, and to a heading of that page.
-- Every row of docs/PROMISES.md has all its cells, is held in one of the ways of HELD, and cites what holds it, or sends the reader to a
+- Every row of docs/PROMISES.md is at most LONGEST characters long, has all its cells, is held in one of the ways of HELD, and cites what holds it, or sends the reader to a
   heading of the page or to a page of docs/. What is trusted, decided or not built needs no statement; what is decided names entries that
   DECISIONS.md has.
 Landing notes speak of the tree as it was: their links must lead somewhere, their citations need not.
@@ -26,6 +26,7 @@ LINE = re.compile(CITATION.pattern + r",? +lines? \d+")
 LINK = re.compile(r"\[[^\]]*\]\(([^)\s]+)\)")
 ROW = re.compile(r"^\|(.*)\|$", re.M)
 HEADING = re.compile(r"^#+ +(.+?) *$", re.M)
+LONGEST = 420
 HELD = re.compile(r"proved|run|trusted|decided|not built|see there")
 NEEDS_NONE = re.compile(r"^(?:trusted|decided|not built)")
 SEE = re.compile(r'see "([^"]+)"')
@@ -140,6 +141,8 @@ def needs_none(head, row):
 def row_problem(head, row, text):
     if len(row) != len(head) or not all(row):
         return "a cell is missing"
+    if len(" | ".join(row)) > LONGEST:
+        return f"is longer than {LONGEST} characters: split it"
     ways = ways_of(head, row)
     if not any(HELD.match(way) for way in ways):
         return f"is held by {', '.join(ways)!r}"
@@ -215,6 +218,7 @@ def faults():
             yield f"{PROMISES}: {row[0]!r} loses its statement", PROMISES, text.replace(whole, "| " + " | ".join(lost) + " |", 1)
     row = next(line for line in text.split("\n") if line.endswith("| proved |"))
     yield "a row with a cell less", PROMISES, text.replace(row, row.replace("| proved |", "|"), 1)
+    yield "a row that is too long", PROMISES, text.replace(row, row.replace("| proved |", f"| proved; {'see there, ' * 40}|"), 1)
     yield "a row with an empty cell", PROMISES, text.replace(row, row.replace("| proved |", "| |"), 1)
     yield "a row held by nothing known", PROMISES, text.replace(row, row.replace("| proved |", "| surely |"), 1)
     yield "a decision that is not there", PROMISES, text.replace(row, row.replace("| proved |", "| decided (999) |"), 1)

@@ -21,8 +21,8 @@ use Rattle.desk.specs.Outcome.{Outcome}
 use Rattle.desk.specs.declared.answer.Answer.{Answer}
 use Rattle.desk.specs.declared.answer.Swept.{Swept}
 use Rattle.desk.proofs.Turns.{number-refused}
-use Rattle.conduct.proofs.Rows.{push-cases, sweep-cases}
-use Rattle.conduct.proofs.Facts.{push-facts}
+use Rattle.call_laws.proofs.Rows.{push-cases, sweep-cases}
+use Rattle.call_laws.proofs.Facts.{push-facts}
 use Rattle.history.proofs.Effects.{push-after}
 use Rattle.cases.specs.Table.{shortest}
 use Rattle.cases.specs.Desks.{Seen, Desk, Allowed, Kind, pushes, decides, sweeps, kindOf, before, Caught, Refuses, Answers, Idles, outputIn, Withholds, Feigns, countsIn, InventsCounts, InventsNumbers, ShutOut}

@@ -44,7 +44,7 @@ use Rattle.cases.proofs.Holding.{_and_}
 use Rattle.history.specs.Example.{room, table, secret, text43, reads}
 use Rattle.history.proofs.Example.{typed-push, typed-decide, typed-token}
 use Rattle.cases.proofs.Inputs.{text42, text129, asking, allowing, code, redeeming}
-use Rattle.upkeep.proofs.Ranges.{octets-started}
+use Rattle.ledger_laws.proofs.Ranges.{octets-started}
 
 -- ---- the ledgers of a grant on one record: a push, a consent of it and a token of that
 

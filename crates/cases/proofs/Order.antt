@@ -12,7 +12,7 @@ use Rattle.desk.specs.Answers.{numberOf, done}
 use Rattle.desk.specs.Checks.{Check, Verdict, accepted, stopped, first}
 use Rattle.desk.specs.declared.answer.Refusal.{Refusal}
 use Rattle.desk.proofs.Turns.{Passed, Turn, by-turns, numberBy}
-use Rattle.conduct.proofs.Rows.{push-passed, push-turn, decide-passed, decide-turn, token-passed, token-turn, resource-passed, resource-turn, sweep-passed, sweep-turn}
+use Rattle.call_laws.proofs.Rows.{push-passed, push-turn, decide-passed, decide-turn, token-passed, token-turn, resource-passed, resource-turn, sweep-passed, sweep-turn}
 use Rattle.history.specs.Runs.{Call, push, decide, token, resource, sweep, step, numberIn}
 use Rattle.history.proofs.Steps.{checksOf}
 use Rattle.cases.specs.Order.{gives, passes, elseInOrder}

@@ -13,9 +13,9 @@ use Rattle.ledger.specs.Fields.{records, rec, slots, state, stateNumber, inStat
 use Rattle.ledger.specs.Sound.{sound}
 use Rattle.ledger.specs.Checks.{isCode}
 use Rattle.ledger.specs.declared.state.State.the-variants.{Consented, Redeemed}
-use Rattle.upkeep.proofs.Slots.{slotOf}
-use Rattle.upkeep.proofs.Says.{of-sound}
-use Rattle.upkeep.proofs.Searches.{first-in, none-found, alone, code-holds, code-first, code-says}
+use Rattle.ledger_laws.proofs.Slots.{slotOf}
+use Rattle.ledger_laws.proofs.Says.{of-sound}
+use Rattle.ledger_laws.proofs.Searches.{first-in, none-found, alone, code-holds, code-first, code-says}
 use Rattle.desk.specs.Answers.{numberOf, done}
 use Rattle.desk.specs.Checks.{Check, stopped, first}
 use Rattle.desk.specs.Requests.{TokenRequest, ResourceRequest}
@@ -24,8 +24,8 @@ use Rattle.desk.specs.Resource.{tokenPlace, resourceChecks}
 use Rattle.desk.specs.declared.answer.Refusal.{Refusal}
 use Rattle.desk.specs.declared.answer.Refusal.the-variants.{NoCode, CodeRedeemed, KeyDiffers}
 use Rattle.desk.proofs.Turns.{numberBy}
-use Rattle.conduct.proofs.Alone.{push-unchanged, decide-unchanged, token-unchanged, resource-unchanged, sweep-unchanged}
-use Rattle.conduct.proofs.Readings.{place-named}
+use Rattle.call_laws.proofs.Alone.{push-unchanged, decide-unchanged, token-unchanged, resource-unchanged, sweep-unchanged}
+use Rattle.call_laws.proofs.Readings.{place-named}
 use Rattle.history.specs.Runs.{Call, push, decide, token, resource, sweep, TypedToken, step}
 use Rattle.history.proofs.Steps.{checksOf}
 use Rattle.cases.specs.Order.{gives, passes}

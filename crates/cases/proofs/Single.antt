@@ -16,8 +16,8 @@ use Rattle.sha256.proofs.Padding.{blocks-of}
 use Rattle.ledger.specs.Fields.{records, rec}
 use Rattle.ledger.specs.Sound.{sound, holds}
 use Rattle.ledger.specs.Checks.{isReference, taken}
-use Rattle.upkeep.proofs.Says.{of-sound}
-use Rattle.upkeep.proofs.Searches.{some-in, first-in, reference-holds}
+use Rattle.ledger_laws.proofs.Says.{of-sound}
+use Rattle.ledger_laws.proofs.Searches.{some-in, first-in, reference-holds}
 use Rattle.desk.specs.Answers.{numberOf, done}
 use Rattle.desk.specs.Checks.{within, scopeFits}
 use Rattle.desk.specs.Requests.{DecideRequest}

@@ -19,8 +19,8 @@ use Rattle.ledger.specs.Limits.{clockLimit, headSize, recordSize, recordsLeast,
 use Rattle.ledger.specs.Fields.{clock, withNext}
 use Rattle.ledger.specs.Sound.{sized, sound}
 use Rattle.ledger.specs.Checks.{untimely}
-use Rattle.upkeep.proofs.Heads.{clock-next}
-use Rattle.upkeep.proofs.Kept.{sound-start}
+use Rattle.ledger_laws.proofs.Heads.{clock-next}
+use Rattle.ledger_laws.proofs.Kept.{sound-start}
 use Rattle.desk.specs.Answers.{numberOf, done}
 use Rattle.desk.specs.Outcome.{left}
 use Rattle.desk.specs.Start.{emptyLedger, start}

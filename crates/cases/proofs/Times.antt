@@ -14,9 +14,9 @@ use Rattle.ledger.specs.Fields.{records, rec, slots, nextNumber, expiry, withRe
 use Rattle.ledger.specs.Sound.{sound}
 use Rattle.ledger.specs.Checks.{isFree, isReference, isCode, isToken, expired}
 use Rattle.ledger.proofs.Records.{slots-with, rec-same}
-use Rattle.upkeep.proofs.Slots.{slotOf}
-use Rattle.upkeep.proofs.Heads.{slots-clock, rec-clock, slots-next, rec-next}
-use Rattle.upkeep.proofs.Searches.{First, reference-first, code-first, token-first, reference-says, code-says, token-says}
+use Rattle.ledger_laws.proofs.Slots.{slotOf}
+use Rattle.ledger_laws.proofs.Heads.{slots-clock, rec-clock, slots-next, rec-next}
+use Rattle.ledger_laws.proofs.Searches.{First, reference-first, code-first, token-first, reference-says, code-says, token-says}
 use Rattle.desk.specs.Answers.{done}
 use Rattle.desk.specs.Requests.{PushRequest, DecideRequest, TokenRequest}
 use Rattle.desk.specs.Outcome.{Outcome}
@@ -29,9 +29,9 @@ use Rattle.desk.specs.Resource.{resourceChecks}
 use Rattle.desk.specs.declared.answer.Refusal.the-variants.{LedgerUnsound, RecordExpired}
 use Rattle.desk.proofs.Written.{decide-yes}
 use Rattle.desk.proofs.Turns.{number-refused}
-use Rattle.conduct.proofs.Rows.{push-cases, decide-cases, token-cases}
-use Rattle.conduct.proofs.Facts.{push-facts, decide-facts, TokenFacts, token-facts}
-use Rattle.conduct.proofs.Readings.{place-named}
+use Rattle.call_laws.proofs.Rows.{push-cases, decide-cases, token-cases}
+use Rattle.call_laws.proofs.Facts.{push-facts, decide-facts, TokenFacts, token-facts}
+use Rattle.call_laws.proofs.Readings.{place-named}
 use Rattle.history.specs.Runs.{Call, push, decide, token, resource, TypedPush, TypedDecide, TypedToken, step, numberIn}
 use Rattle.history.proofs.Steps.{checksOf}
 use Rattle.history.proofs.Effects.{push-found, push-after, decide-found, decide-by, consent-after, token-found, token-after}

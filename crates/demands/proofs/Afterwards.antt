@@ -26,13 +26,13 @@ use Rattle.ledger.specs.Sweep.{swept, freedOf, freed}
 use Rattle.ledger.specs.declared.state.State.the-variants.{Free, Pushed, Consented, Redeemed}
 use Rattle.ledger.proofs.Records.{slot-within, rec-length, length-with, rec-same, rec-other}
 use Rattle.ledger.proofs.Swept.{length-free, length-to}
-use Rattle.upkeep.proofs.Says.{sized-says}
-use Rattle.upkeep.proofs.Plain.{ledger-says}
-use Rattle.upkeep.proofs.Searches.{first-in, free-found}
-use Rattle.upkeep.proofs.Replaced.{zeros-free}
-use Rattle.upkeep.proofs.Heads.{length-clock, rec-clock, rest-clock, length-next, rec-next, rest-next, head-with, rest-with}
-use Rattle.upkeep.proofs.Kept.{head-swept}
-use Rattle.upkeep.proofs.Written.{redirect-front}
+use Rattle.ledger_laws.proofs.Says.{sized-says}
+use Rattle.ledger_laws.proofs.Plain.{ledger-says}
+use Rattle.ledger_laws.proofs.Searches.{first-in, free-found}
+use Rattle.ledger_laws.proofs.Replaced.{zeros-free}
+use Rattle.ledger_laws.proofs.Heads.{length-clock, rec-clock, rest-clock, length-next, rec-next, rest-next, head-with, rest-with}
+use Rattle.ledger_laws.proofs.Kept.{head-swept}
+use Rattle.ledger_laws.proofs.Written.{redirect-front}
 use Rattle.clients.specs.Fields.{idSpan}
 use Rattle.clients.specs.Known.{placeOf}
 use Rattle.clients.specs.Fields.{idSpan}
@@ -45,12 +45,12 @@ use Rattle.desk.specs.Push.{pushRecord, pushAt}
 use Rattle.desk.specs.Decide.{referencePlace, handedOut, consentRecord, consentAt, declineAt, decideAt}
 use Rattle.desk.specs.Token.{codePlace, tokenRecord, tokenAt}
 use Rattle.desk.specs.Resource.{tokenPlace}
-use Rattle.conduct.specs.Conditions.{StandsAt}
+use Rattle.call_laws.specs.Conditions.{StandsAt}
 use Rattle.desk.proofs.Turns.{number-refused}
-use Rattle.conduct.proofs.Rows.{push-cases, decide-cases, token-cases, resource-cases, sweep-cases}
-use Rattle.conduct.proofs.Facts.{PushFacts, push-facts, DecideFacts, decide-facts, TokenFacts, token-facts, resource-facts, sweep-facts}
-use Rattle.conduct.proofs.Readings.{known-is, free-stands, reference-stands, code-stands, token-stands}
-use Rattle.conduct.proofs.Alone.{length-pushed, length-consented, length-redeemed, push-next, start-writes, sweep-alone}
+use Rattle.call_laws.proofs.Rows.{push-cases, decide-cases, token-cases, resource-cases, sweep-cases}
+use Rattle.call_laws.proofs.Facts.{PushFacts, push-facts, DecideFacts, decide-facts, TokenFacts, token-facts, resource-facts, sweep-facts}
+use Rattle.call_laws.proofs.Readings.{known-is, free-stands, reference-stands, code-stands, token-stands}
+use Rattle.call_laws.proofs.Alone.{length-pushed, length-consented, length-redeemed, push-next, start-writes, sweep-alone}
 use Rattle.demands.specs.Layout.{clockBytes, nextBytes, eightBytes, valueLong, keyLong}
 use Rattle.demands.specs.Calls.{start, push, decide, token, resource, sweep, four, three, Left, leaves}
 use Rattle.demands.specs.Afterwards.{Entered, Consenting, Redeeming, AllButOne, told, AfterStart, AfterPush, AfterDecide, AfterToken, AfterResource, AfterSweep}

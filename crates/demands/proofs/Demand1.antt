@@ -12,9 +12,9 @@ use Rattle.octets.specs.Plain.{AllZero}
 use Rattle.octets.proofs.Bytes.{zeros-say}
 use Rattle.ledger.specs.Sound.{sound}
 use Rattle.ledger.specs.Checks.{untimely}
-use Rattle.upkeep.specs.Sound.{SoundLedger}
-use Rattle.upkeep.proofs.Says.{either}
-use Rattle.upkeep.proofs.Plain.{ledger-says}
+use Rattle.ledger_laws.specs.Sound.{SoundLedger}
+use Rattle.ledger_laws.proofs.Says.{either}
+use Rattle.ledger_laws.proofs.Plain.{ledger-says}
 use Rattle.clients.specs.Plain.{SoundTable}
 use Rattle.desk.specs.Answers.{numberOf, done}
 use Rattle.desk.specs.Push.{pushAt}
@@ -22,11 +22,11 @@ use Rattle.desk.specs.Decide.{consentAt, declineAt}
 use Rattle.desk.specs.Token.{tokenAt}
 use Rattle.desk.specs.declared.answer.Refusal.{Refusal}
 use Rattle.desk.specs.declared.answer.Refusal.the-variants.{LedgerUnsound, TimeWrong, TableUnsound}
-use Rattle.conduct.specs.Conditions.{InTime}
+use Rattle.call_laws.specs.Conditions.{InTime}
 use Rattle.desk.proofs.Turns.{number-refused}
-use Rattle.conduct.proofs.Readings.{time-says}
-use Rattle.conduct.proofs.Rows.{start-numbers, push-numbers, decide-numbers, token-numbers, resource-numbers, sweep-numbers, push-cases, decide-cases, token-cases, resource-cases, sweep-cases}
-use Rattle.conduct.proofs.Alone.{either-way, start-unchanged, push-unchanged, decide-unchanged, token-unchanged, resource-unchanged, sweep-unchanged}
+use Rattle.call_laws.proofs.Readings.{time-says}
+use Rattle.call_laws.proofs.Rows.{start-numbers, push-numbers, decide-numbers, token-numbers, resource-numbers, sweep-numbers, push-cases, decide-cases, token-cases, resource-cases, sweep-cases}
+use Rattle.call_laws.proofs.Alone.{either-way, start-unchanged, push-unchanged, decide-unchanged, token-unchanged, resource-unchanged, sweep-unchanged}
 use Rattle.demands.specs.Calls.{Start, Call, start, push, decide, token, resource, sweep, kindOf, lent, four, three, leaves}
 use Rattle.demands.specs.Demand1.{numbers, In, readsTable, Demand1}
 use Rattle.demands.specs.Rows.{Not, Row, _given_, Turn, begins, rows}

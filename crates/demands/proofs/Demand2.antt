@@ -4,7 +4,7 @@ use mathlib.Core.Logic.{_↔_}
 use mathlib.Core.List.{List}
 use Prim.Native.Nat.{ℕ}
 use Rattle.desk.specs.Answers.{done}
-use Rattle.conduct.proofs.Accepting.{start-accepted, push-accepted, decide-accepted, token-accepted, resource-accepted, sweep-accepted}
+use Rattle.call_laws.proofs.Accepting.{start-accepted, push-accepted, decide-accepted, token-accepted, resource-accepted, sweep-accepted}
 use Rattle.demands.specs.Calls.{Call, start, push, decide, token, resource, sweep, leaves}
 use Rattle.demands.specs.Demand2.{Allowed, After, Demand2}
 use Rattle.demands.proofs.Rows.{turns}

@@ -22,8 +22,8 @@ use Rattle.ledger.specs.Fields.{nextNumber, rec, slots, records, state, stateNu
 use Rattle.ledger.specs.Sound.{sized, sound}
 use Rattle.ledger.specs.Checks.{isFree, isReference, isCode, isToken, untimely, expired, taken}
 use Rattle.ledger.specs.declared.state.State.the-variants.{Free, Pushed, Consented, Redeemed}
-use Rattle.upkeep.proofs.Searches.{some-in, none-in, none-found, first-in, free-says, reference-first, code-first, token-first}
-use Rattle.upkeep.proofs.Plain.{size-says, ledger-says}
+use Rattle.ledger_laws.proofs.Searches.{some-in, none-in, none-found, first-in, free-says, reference-first, code-first, token-first}
+use Rattle.ledger_laws.proofs.Plain.{size-says, ledger-says}
 use Rattle.clients.specs.Fields.{client as entry, permitted}
 use Rattle.clients.specs.Known.{isKnown, placeOf}
 use Rattle.clients.specs.Sound.{sound as tableSound}
@@ -39,9 +39,9 @@ use Rattle.desk.specs.Token.{codePlace, tokenChecks}
 use Rattle.desk.specs.Resource.{tokenPlace, resourceChecks}
 use Rattle.desk.specs.Sweep.{sweepChecks}
 use Rattle.desk.specs.declared.answer.Refusal.{Refusal}
-use Rattle.conduct.specs.Conditions.{ScopeWithin, FreshValue, StandsAt, TokenAt}
-use Rattle.conduct.proofs.Rows.{startChecks, start-turn, push-turn, decide-turn, token-turn, resource-turn, sweep-turn}
-use Rattle.conduct.proofs.Readings.{time-says, known-is, is-known, scope-says, fresh-says, match-says, place-named, reference-stands, code-stands, redeemed-stands, token-stands}
+use Rattle.call_laws.specs.Conditions.{ScopeWithin, FreshValue, StandsAt, TokenAt}
+use Rattle.call_laws.proofs.Rows.{startChecks, start-turn, push-turn, decide-turn, token-turn, resource-turn, sweep-turn}
+use Rattle.call_laws.proofs.Readings.{time-says, known-is, is-known, scope-says, fresh-says, match-says, place-named, reference-stands, code-stands, redeemed-stands, token-stands}
 use Rattle.demands.specs.Calls.{Call, start, push, decide, token, resource, sweep, leaves}
 use Rattle.demands.specs.Rows.{Not, Turn, startRows, pushRows, decideRows, tokenRows, resourceRows, begins, rows}
 use Rattle.demands.proofs.Turning.{Agreed, none, row, turns-say, not-says, flip-says, either-fails, at-found}

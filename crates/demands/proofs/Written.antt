@@ -14,7 +14,7 @@ use Rattle.forms.specs.Limits.{redirectMost}
 use Rattle.ledger.specs.Limits.{referenceLifetime, codeLifetime, tokenLifetime}
 use Rattle.ledger.specs.Fields.{nextNumber, stateSpan, redirectLengthSpan, gapOneSpan, scopeSpan, grantSpan, expirySpan, holderSpan, clientSpan, challengeSpan, gapTwoSpan, valueSpan, tokenSpan, boundKeySpan, redirectSpan, redirectField}
 use Rattle.ledger.specs.Write.{pushed, consented, redeemed}
-use Rattle.upkeep.proofs.Puts.{put-wide, Store, of-number, of-bytes, stored, clean, reads, length-stored, stored-reads, stored-spared}
+use Rattle.ledger_laws.proofs.Puts.{put-wide, Store, of-number, of-bytes, stored, clean, reads, length-stored, stored-reads, stored-spared}
 use Rattle.desk.specs.Requests.{PushRequest, DecideRequest, TokenRequest}
 use Rattle.demands.specs.Afterwards.{Entered, Consenting, Redeeming}
 

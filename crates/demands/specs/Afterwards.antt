@@ -14,7 +14,7 @@ use Rattle.ledger.specs.Sweep.{freedOf}
 use Rattle.ledger.specs.declared.state.State.the-variants.{Free, Pushed, Consented, Redeemed}
 use Rattle.desk.specs.Limits.{outputLeast}
 use Rattle.desk.specs.Requests.{PushRequest, DecideRequest, TokenRequest, ResourceRequest}
-use Rattle.conduct.specs.Conditions.{FirstFree, StandsAt, TokenAt}
+use Rattle.call_laws.specs.Conditions.{FirstFree, StandsAt, TokenAt}
 use Rattle.demands.specs.Layout.{clockBytes, nextBytes, stateByte, lengthByte, scopeBytes, grantBytes, expiryBytes, holderBytes, byte, fourBytes, eightBytes, valueLong, keyLong}
 use Rattle.demands.specs.Calls.{Left}
 

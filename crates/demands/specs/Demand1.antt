@@ -5,7 +5,7 @@ use mathlib.Core.Logic.{_≢_, _⊎_}
 use mathlib.Core.Bool.{Bool, true, false}
 use mathlib.Core.List.{List, [], _∷_}
 use Rattle.octets.specs.Plain.{AllZero}
-use Rattle.upkeep.specs.Sound.{SoundLedger}
+use Rattle.ledger_laws.specs.Sound.{SoundLedger}
 use Rattle.clients.specs.Plain.{SoundTable}
 use Rattle.desk.specs.Answers.{numberOf, done}
 use Rattle.desk.specs.declared.answer.Refusal.{Refusal}

@@ -5,7 +5,7 @@ use mathlib.Core.Logic.{_↔_}
 use mathlib.Core.List.{List}
 use Rattle.desk.specs.Answers.{numberOf, done}
 use Rattle.desk.specs.declared.answer.Refusal.{Refusal}
-use Rattle.conduct.specs.Accepted.{StartAccepted, PushAccepted, DecideAccepted, TokenAccepted, ResourceAccepted, SweepAccepted}
+use Rattle.call_laws.specs.Accepted.{StartAccepted, PushAccepted, DecideAccepted, TokenAccepted, ResourceAccepted, SweepAccepted}
 use Rattle.demands.specs.Calls.{Call, start, push, decide, token, resource, sweep, Left, leaves}
 use Rattle.demands.specs.Rows.{Turn, rows}
 use Rattle.demands.specs.Afterwards.{AfterStart, AfterPush, AfterDecide, AfterToken, AfterResource, AfterSweep}

@@ -12,7 +12,7 @@ use Rattle.texts.specs.Base64url.{base64url}
 use Rattle.ledger.specs.Limits.{lastNumber}
 use Rattle.ledger.specs.Fields.{nextNumber, rec, slots, state, stateNumber, scope, expiry, holder, challenge, boundKey}
 use Rattle.ledger.specs.declared.state.State.the-variants.{Free, Pushed, Consented, Redeemed}
-use Rattle.upkeep.specs.Sound.{Sized, SoundLedger}
+use Rattle.ledger_laws.specs.Sound.{Sized, SoundLedger}
 use Rattle.clients.specs.Fields.{client as entry, permitted}
 use Rattle.clients.specs.Plain.{SoundTable, KnownAt}
 use Rattle.desk.specs.Limits.{outputLeast}
@@ -40,7 +40,7 @@ use Rattle.desk.specs.declared.answer.Refusal.the-variants.{
   HolderDiffers,
   OutputShort,
 }
-use Rattle.conduct.specs.Conditions.{InTime, ScopeWithin, FreshValue, StandsAt, TokenAt}
+use Rattle.call_laws.specs.Conditions.{InTime, ScopeWithin, FreshValue, StandsAt, TokenAt}
 use Rattle.demands.specs.Calls.{Call, start, push, decide, token, resource, sweep}
 
 abbrev pub Not : Type 0 → Type 0

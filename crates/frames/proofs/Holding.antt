@@ -62,9 +62,9 @@ module _ (f l : List ℕ) (n : ℕ) (within : n ≤ length l) where
   pub start-many : {s u : ℕ} {a : List ℕ} → s ≡ slotCount f → 200 < s → u ≡ n → a ≡ numberBytes (numberOf LedgerUnsound) → filled u l a ≡ fill (started f (take n l)) l
   start-many g h = few (above 1 200 (slotCount f) (rw g at h))
 
-pub length-fresh : (n : ℕ) → length (emptyLedger n) ≡ n
+pub length-empty : (n : ℕ) → length (emptyLedger n) ≡ n
 unfolding emptyLedger
-length-emptyLedger n = length-put _ 8 _ ∙ length-blank n
+length-empty n = length-put _ 8 _ ∙ length-blank n
 
 sized-of : (l : List ℕ) (s : ℕ) → 1 ≤ s → s ≤ 200 → length l ≡ 32 + s * 256 → sized l ≡ true
 unfolding sized
@@ -86,7 +86,7 @@ start-done f l m s {k} {x} {a} g h i j e q =
     let b : left k x ≡ left done (emptyLedger (32 + s * 256)) = e ∙ start-is (take (32 + s * 256) l) (sized-of (take (32 + s * 256) l) s h i n) ∙ ap (λ (v : ℕ). left done (emptyLedger v)) n in
     let c : x ≡ emptyLedger (32 + s * 256) = ap (λ (o : Outcome ℕ). o .ledger) b in
     let d : k ≡ done = ap (λ (o : Outcome ℕ). o .answer) b in
-    let o = length-emptyLedger (32 + s * 256) in
+    let o = length-empty (32 + s * 256) in
     rw (← g, inside 1 200 s h i, q, d, c, o, laid-part l (emptyLedger (32 + s * 256)) (32 + s * 256) o (omega arith))
 
 -- ---- a client's record

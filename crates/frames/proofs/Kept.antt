@@ -39,7 +39,7 @@ use Rattle.wire.specs.Answers.{numberBytes}
 use Rattle.frames.specs.Serve.{Desk, Served, Written, written, serve, started, appended}
 use Rattle.desk.specs.Start.{emptyLedger}
 use Rattle.texts.proofs.Digits.{within}
-use Rattle.frames.proofs.Holding.{length-fresh}
+use Rattle.frames.proofs.Holding.{length-empty}
 
 -- ---- all checks passed
 
@@ -162,7 +162,7 @@ started-fits : (f l : List ℕ) → length l ≤ ledgerMost → length (started 
 unfolding started
 started-fits f l h =
     by-test (between 1 200 (slotCount f)) (written (emptyLedger (32 + slotCount f * 256)) (numberBytes 0)) (written l (numberBytes 1)) ledgerMost
-    (λ e. let w = within 1 200 (slotCount f) e in let n = length-emptyLedger (32 + slotCount f * 256) in omega arith) h
+    (λ e. let w = within 1 200 (slotCount f) e in let n = length-empty (32 + slotCount f * 256) in omega arith) h
 
 appended-fits : (f t : List ℕ) → length t ≤ tableMost → length (appended f t .bytes) ≤ tableMost
 unfolding appended

@@ -12,7 +12,7 @@ use Rattle.ledger.specs.Fields.{nextNumber, records, rec, state, used, inState,
 use Rattle.ledger.specs.Checks.{expired}
 use Rattle.ledger.specs.Write.{free}
 use Rattle.ledger.specs.Sweep.{sweptRecord}
-use Rattle.upkeep.proofs.Replaced.{free-state}
+use Rattle.ledger_laws.proofs.Replaced.{free-state}
 use Rattle.ledger.specs.declared.state.State.the-variants.{Consented}
 use Rattle.desk.specs.Push.{pushAt}
 use Rattle.desk.specs.Decide.{referencePlace, consentAt, declineAt}
@@ -24,7 +24,7 @@ use Rattle.history.specs.Counts.{Whose, such, counted, consents, tokens,
 use Rattle.desk.proofs.Turns.{Passed}
 use Rattle.history.proofs.Steps.{checksOf, refusal, acceptance, left, step-cases, decide-branch}
 use Rattle.history.proofs.Events.{count-none, count-provided, dropped-none, standing, refused-none, consent-events, decline-events}
-use Rattle.conduct.proofs.Facts.{push-facts, decide-facts, token-facts, resource-facts, sweep-facts}
+use Rattle.call_laws.proofs.Facts.{push-facts, decide-facts, token-facts, resource-facts, sweep-facts}
 use Rattle.history.proofs.Effects.{Wrote, pushPlace, pushOne, pushes, consentOne, consents as consented, declines, tokenOne, redeems, ticks, sweeps}
 use Rattle.history.proofs.Runs.{Good}
 

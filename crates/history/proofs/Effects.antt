@@ -45,13 +45,13 @@ use Rattle.ledger.specs.Write.{free}
 use Rattle.ledger.specs.Sweep.{swept, sweptRecord}
 use Rattle.ledger.specs.declared.state.State.the-variants.{Pushed, Consented, Redeemed}
 use Rattle.ledger.proofs.Records.{length-records, records-at, rec-length, length-with, records-with}
-use Rattle.upkeep.proofs.Slots.{slotOf, pushedSlot, consentedSlot, redeemedSlot}
-use Rattle.upkeep.proofs.Written.{Wrote as Leaves, pushed-wrote, consented-wrote, redeemed-wrote}
+use Rattle.ledger_laws.proofs.Slots.{slotOf, pushedSlot, consentedSlot, redeemedSlot}
+use Rattle.ledger_laws.proofs.Written.{Wrote as Leaves, pushed-wrote, consented-wrote, redeemed-wrote}
 use Rattle.ledger.proofs.Swept.{length-free, rec-swept, slots-swept}
-use Rattle.upkeep.proofs.Says.{neither, of-sound}
-use Rattle.upkeep.proofs.Searches.{First, first-in}
-use Rattle.upkeep.proofs.Heads.{records-clock, next-clock, clock-is, length-next, records-next, next-is, next-with, next-left}
-use Rattle.upkeep.proofs.Kept.{head-swept, length-sweep}
+use Rattle.ledger_laws.proofs.Says.{neither, of-sound}
+use Rattle.ledger_laws.proofs.Searches.{First, first-in}
+use Rattle.ledger_laws.proofs.Heads.{records-clock, next-clock, clock-is, length-next, records-next, next-is, next-with, next-left}
+use Rattle.ledger_laws.proofs.Kept.{head-swept, length-sweep}
 use Rattle.desk.specs.Checks.{scopeFits, within}
 use Rattle.desk.specs.Requests.{PushRequest, DecideRequest, TokenRequest, ResourceRequest}
 use Rattle.desk.specs.Push.{pushRecord, pushAt}
@@ -59,7 +59,7 @@ use Rattle.desk.specs.Decide.{referencePlace, consentRecord, consentAt, decline
 use Rattle.desk.specs.Token.{codePlace, tokenRecord, tokenAt}
 use Rattle.desk.specs.Resource.{tokenPlace}
 use Rattle.history.specs.Runs.{TypedPush, TypedDecide, TypedToken}
-use Rattle.conduct.proofs.Facts.{PushFacts, DecideFacts, TokenFacts, ResourceFacts}
+use Rattle.call_laws.proofs.Facts.{PushFacts, DecideFacts, TokenFacts, ResourceFacts}
 
 -- ---- what checks 1 and 2 say
 

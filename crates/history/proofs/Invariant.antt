@@ -20,8 +20,8 @@ use Rattle.ledger.specs.Checks.{expired}
 use Rattle.ledger.specs.Write.{free}
 use Rattle.ledger.specs.Sweep.{sweptRecord}
 use Rattle.ledger.proofs.Records.{records-at}
-use Rattle.upkeep.proofs.Replaced.{free-state}
-use Rattle.upkeep.proofs.Heads.{rec-next}
+use Rattle.ledger_laws.proofs.Replaced.{free-state}
+use Rattle.ledger_laws.proofs.Heads.{rec-next}
 use Rattle.desk.specs.Start.{emptyLedger}
 use Rattle.desk.specs.Push.{pushAt}
 use Rattle.desk.specs.Requests.{PushRequest, DecideRequest, TokenRequest}
@@ -30,7 +30,7 @@ use Rattle.history.specs.Runs.{Call, push, decide, token, resource, swee
 use Rattle.history.specs.Events.{Push, Consent, No, Token, Event, event, eventsOf, listed}
 use Rattle.history.specs.Histories.{concerns, history, unborn, asked, decided, redeemed}
 use Rattle.desk.proofs.Turns.{Passed}
-use Rattle.conduct.proofs.Facts.{push-facts, decide-facts, token-facts, resource-facts, sweep-facts}
+use Rattle.call_laws.proofs.Facts.{push-facts, decide-facts, token-facts, resource-facts, sweep-facts}
 use Rattle.history.proofs.Steps.{checksOf, refusal, acceptance, left, step-cases, decide-branch}
 use Rattle.history.proofs.Events.{dropped-none, refused-none, consent-events, decline-events}
 use Rattle.history.proofs.Effects.{

@@ -16,7 +16,7 @@ use Rattle.ledger.specs.Limits.{referenceLifetime, codeLifetime, tokenLifetime}
 use Rattle.ledger.specs.Fields.{clock, nextNumber, slots, records, state, scope, grant, expiry, holder, client, challenge, token as tokenField, boundKey}
 use Rattle.ledger.specs.Sound.{sound}
 use Rattle.ledger.proofs.Records.{length-records, records-at}
-use Rattle.upkeep.proofs.Says.{of-sound}
+use Rattle.ledger_laws.proofs.Says.{of-sound}
 use Rattle.desk.specs.Requests.{PushRequest, DecideRequest, TokenRequest}
 use Rattle.history.specs.Runs.{Call, push, decide, token, resource, sweep}
 use Rattle.history.specs.Events.{Event}

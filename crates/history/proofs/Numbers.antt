@@ -10,12 +10,12 @@ use Rattle.octets.specs.Parts.{blank}
 use Rattle.octets.proofs.Parts.{length-blank}
 use Rattle.octets.proofs.Numbers.{Octets}
 use Rattle.ledger.specs.Fields.{nextNumber, records}
-use Rattle.upkeep.proofs.Heads.{next-is}
+use Rattle.ledger_laws.proofs.Heads.{next-is}
 use Rattle.desk.specs.Start.{emptyLedger}
 use Rattle.desk.specs.Push.{pushAt}
 use Rattle.desk.specs.Token.{tokenAt}
 use Rattle.desk.proofs.Turns.{Passed}
-use Rattle.conduct.proofs.Facts.{push-facts, decide-facts, token-facts, resource-facts, sweep-facts}
+use Rattle.call_laws.proofs.Facts.{push-facts, decide-facts, token-facts, resource-facts, sweep-facts}
 use Rattle.history.specs.Runs.{Call, push, decide, token, resource, sweep, Typed, Step, step, started}
 use Rattle.history.specs.Events.{Push, Event, event, eventsOf, is, listed}
 use Rattle.history.specs.Histories.{numbersOf}

@@ -13,8 +13,8 @@ use Rattle.octets.specs.Parts.{zeros, same}
 use Rattle.octets.proofs.Tests.{both, false-of}
 use Rattle.octets.proofs.Parts.{same-eq, same-refl}
 use Rattle.ledger.specs.Fields.{rec, slots, records, used, grant, value, token as tokenField}
-use Rattle.upkeep.proofs.Says.{neither, of-sound}
-use Rattle.upkeep.proofs.Searches.{first-in}
+use Rattle.ledger_laws.proofs.Says.{neither, of-sound}
+use Rattle.ledger_laws.proofs.Searches.{first-in}
 use Rattle.desk.specs.Requests.{ResourceRequest}
 use Rattle.desk.specs.Answers.{numberOf}
 use Rattle.desk.specs.declared.answer.Refusal.the-variants.{CodeRedeemed}
@@ -22,7 +22,7 @@ use Rattle.desk.specs.Push.{pushAt}
 use Rattle.desk.specs.Token.{codePlace, tokenAt}
 use Rattle.desk.specs.Resource.{tokenPlace}
 use Rattle.desk.proofs.Turns.{Passed}
-use Rattle.conduct.proofs.Facts.{resource-facts}
+use Rattle.call_laws.proofs.Facts.{resource-facts}
 use Rattle.history.specs.Runs.{Call, push, decide, token, resource, sweep, Typed, Said, Step, step, numberIn, accepted, grantOf, holderOf, steps, last}
 use Rattle.history.specs.Events.{Push, Consent, No, Token, SecondUse, Reading, Event, event, ofRecord, provided, readerOf, happened, eventsOf, events, rank, is, listed}
 use Rattle.history.specs.Histories.{enters, concerns, history, asToken, issued, Granted, Chain, Life, unborn, asked, decided, redeemed}

@@ -5,11 +5,11 @@ use mathlib.Core.Bool.{true}
 use mathlib.Core.List.{List, [], _∷_, _++_, append-nil, append-assoc}
 use Rattle.octets.proofs.Numbers.{Octets}
 use Rattle.ledger.specs.Sound.{sound}
-use Rattle.upkeep.proofs.Ranges.{octets-started}
-use Rattle.upkeep.proofs.Kept.{sound-start}
+use Rattle.ledger_laws.proofs.Ranges.{octets-started}
+use Rattle.ledger_laws.proofs.Kept.{sound-start}
 use Rattle.desk.specs.Requests.{PushRequest, DecideRequest, TokenRequest}
 use Rattle.desk.specs.Start.{emptyLedger}
-use Rattle.conduct.proofs.Keeping.{
+use Rattle.call_laws.proofs.Keeping.{
   PushTyped,
   DecideTyped,
   TokenTyped,

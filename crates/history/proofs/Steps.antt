@@ -27,7 +27,7 @@ use Rattle.desk.specs.declared.answer.Swept.{Swept}
 use Rattle.desk.specs.declared.answer.Refusal.{Refusal}
 use Rattle.desk.specs.declared.answer.Refusal.the-variants.{LedgerUnsound}
 use Rattle.desk.proofs.Turns.{Passed, Turn, number-refused}
-use Rattle.conduct.proofs.Rows.{push-cases, push-turn, decide-cases, decide-turn, token-cases, token-turn, resource-cases, resource-turn, sweep-cases, sweep-turn}
+use Rattle.call_laws.proofs.Rows.{push-cases, push-turn, decide-cases, decide-turn, token-cases, token-turn, resource-cases, resource-turn, sweep-cases, sweep-turn}
 use Rattle.desk.proofs.Written.{decide-yes, decide-no}
 use Rattle.history.specs.Runs.{Call, push, decide, token, resource, sweep, Said, answered, decided, swept, Step, made, step, numberIn}
 

@@ -12,12 +12,12 @@ use Rattle.texts.specs.Base64url.{base64url}
 use Rattle.ledger.specs.Limits.{lastNumber}
 use Rattle.ledger.specs.Fields.{nextNumber, rec, scope, expiry, holder, challenge, boundKey}
 use Rattle.ledger.specs.declared.state.State.the-variants.{Pushed, Consented}
-use Rattle.upkeep.specs.Sound.{Sized, SoundLedger}
+use Rattle.ledger_laws.specs.Sound.{Sized, SoundLedger}
 use Rattle.clients.specs.Fields.{client as entry, permitted}
 use Rattle.clients.specs.Plain.{SoundTable, KnownAt}
 use Rattle.desk.specs.Limits.{outputLeast}
 use Rattle.desk.specs.Requests.{PushRequest, DecideRequest, TokenRequest, ResourceRequest}
-use Rattle.conduct.specs.Conditions.{InTime, ScopeWithin, FreshValue, FirstFree, StandsAt, TokenAt}
+use Rattle.call_laws.specs.Conditions.{InTime, ScopeWithin, FreshValue, FirstFree, StandsAt, TokenAt}
 
 -- "Start (ledger buffer, old content ignored): 1 if the length is wrong."
 abbrev pub StartAccepted : List ℕ → Type 0

@@ -23,12 +23,12 @@ use Rattle.ledger.specs.Sweep.{sweptRecord, sweptTo, swept}
 use Rattle.ledger.specs.declared.state.State.the-variants.{Free, Pushed, Consented}
 use Rattle.ledger.proofs.Records.{rec-length}
 use Rattle.ledger.proofs.Swept.{length-free, length-swept, slots-to, length-to, rec-swept}
-use Rattle.upkeep.proofs.Slots.{slotOf, pushedSlot, consentedSlot, redeemedSlot}
-use Rattle.upkeep.proofs.Written.{Wrote, wrote-redirect, wrote-behind, redirect-front, pushed-wrote, consented-wrote, redeemed-wrote}
-use Rattle.upkeep.proofs.Says.{SoundUsed, SoundRecords, free-is, of-sound, to-sound, sized-says}
-use Rattle.upkeep.proofs.Searches.{fresh-in}
-use Rattle.upkeep.proofs.Heads.{length-clock, slots-clock, rec-clock, next-clock, rest-clock, clock-is, length-next, slots-next, rec-next, clock-next, rest-next, next-is, head-with}
-use Rattle.upkeep.proofs.Replaced.{free-state, free-sound, free-holds, free-own, records-as, Fits, sound-as, sound-replaced, sound-numbered, sound-fewer}
+use Rattle.ledger_laws.proofs.Slots.{slotOf, pushedSlot, consentedSlot, redeemedSlot}
+use Rattle.ledger_laws.proofs.Written.{Wrote, wrote-redirect, wrote-behind, redirect-front, pushed-wrote, consented-wrote, redeemed-wrote}
+use Rattle.ledger_laws.proofs.Says.{SoundUsed, SoundRecords, free-is, of-sound, to-sound, sized-says}
+use Rattle.ledger_laws.proofs.Searches.{fresh-in}
+use Rattle.ledger_laws.proofs.Heads.{length-clock, slots-clock, rec-clock, next-clock, rest-clock, clock-is, length-next, slots-next, rec-next, clock-next, rest-next, next-is, head-with}
+use Rattle.ledger_laws.proofs.Replaced.{free-state, free-sound, free-holds, free-own, records-as, Fits, sound-as, sound-replaced, sound-numbered, sound-fewer}
 
 -- "the clock becomes now"
 pub sound-clock : (t : ℕ) (l : List ℕ) → sound l ≡ true → t < clockLimit → sound (withClock t l) ≡ true

@@ -21,12 +21,12 @@ use Rattle.ledger.specs.Checks.{isFree, isReference, isCode, expired}
 use Rattle.ledger.specs.Write.{pushed, consented, redeemed, free}
 use Rattle.ledger.specs.Sweep.{sweptRecord, swept}
 use Rattle.ledger.proofs.Records.{slot-within, rec-length, length-with, rec-other}
-use Rattle.upkeep.proofs.Heads.{length-clock, rec-clock, next-clock, rest-clock, clock-is, length-next, rec-next, rest-next, next-is, next-with, rest-with, next-left}
-use Rattle.upkeep.proofs.Puts.{drop-put}
+use Rattle.ledger_laws.proofs.Heads.{length-clock, rec-clock, next-clock, rest-clock, clock-is, length-next, rec-next, rest-next, next-is, next-with, rest-with, next-left}
+use Rattle.ledger_laws.proofs.Puts.{drop-put}
 use Rattle.ledger.proofs.Swept.{length-free, length-to, rec-ahead, rec-swept}
-use Rattle.upkeep.proofs.Kept.{head-swept}
-use Rattle.upkeep.proofs.Says.{of-sound}
-use Rattle.upkeep.proofs.Searches.{first-in}
+use Rattle.ledger_laws.proofs.Kept.{head-swept}
+use Rattle.ledger_laws.proofs.Says.{of-sound}
+use Rattle.ledger_laws.proofs.Searches.{first-in}
 use Rattle.desk.specs.Limits.{outputLeast}
 use Rattle.desk.specs.Answers.{done, numberOf}
 use Rattle.desk.specs.Requests.{PushRequest, DecideRequest, TokenRequest, ResourceRequest}
@@ -43,8 +43,8 @@ use Rattle.desk.specs.declared.answer.Answer.{Answer}
 use Rattle.desk.specs.declared.answer.Decided.{Decided}
 use Rattle.desk.specs.declared.answer.Swept.{Swept}
 use Rattle.desk.proofs.Turns.{number-refused}
-use Rattle.conduct.proofs.Rows.{push-cases, decide-cases, token-cases, resource-cases, sweep-cases}
-use Rattle.conduct.proofs.Facts.{PushFacts, push-facts, DecideFacts, decide-facts, TokenFacts, token-facts, resource-facts, sweep-facts}
+use Rattle.call_laws.proofs.Rows.{push-cases, decide-cases, token-cases, resource-cases, sweep-cases}
+use Rattle.call_laws.proofs.Facts.{PushFacts, push-facts, DecideFacts, decide-facts, TokenFacts, token-facts, resource-facts, sweep-facts}
 
 -- ---- one record rewritten, and the clock
 

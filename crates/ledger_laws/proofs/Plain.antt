@@ -9,8 +9,8 @@ use Rattle.octets.proofs.Bytes.{zeros-say, nonzero-says}
 use Rattle.forms.proofs.Laws.{challenge-says, redirect-says}
 use Rattle.ledger.specs.Fields.{nextNumber, headRest, rec, slots, gapOne, gapTwo, client, challenge, value, token, boundKey, redirect, behindRedirect}
 use Rattle.ledger.specs.Sound.{sized, sound}
-use Rattle.upkeep.specs.Sound.{SoundInUse, SoundRecord, Has, Sized, SoundLedger}
-use Rattle.upkeep.proofs.Says.{SoundUsed, SoundRecord as TestedRecord, Of, SoundLedger as TestedLedger, sized-says, of-sound, to-sound}
+use Rattle.ledger_laws.specs.Sound.{SoundInUse, SoundRecord, Has, Sized, SoundLedger}
+use Rattle.ledger_laws.proofs.Says.{SoundUsed, SoundRecord as TestedRecord, Of, SoundLedger as TestedLedger, sized-says, of-sound, to-sound}
 
 module _ (next : ℕ) (r : List ℕ) where
   used-plain : SoundUsed next r → SoundInUse next r

@@ -20,7 +20,7 @@ use Rattle.ledger.specs.Write.{free}
 use Rattle.ledger.specs.declared.state.State.the-variants.{Free, Pushed, Consented, Redeemed}
 use Rattle.ledger.specs.declared.find.Found.the-variants.{At, Nothing}
 use Rattle.ledger.proofs.Records.{length-records, records-at, rec-length}
-use Rattle.upkeep.proofs.Says.{either, neither, SoundRecord, SoundRecords, Of, holds-says, free-is, of-sound}
+use Rattle.ledger_laws.proofs.Says.{either, neither, SoundRecord, SoundRecords, Of, holds-says, free-is, of-sound}
 
 -- record k is the first that passes
 pub record First (q : List ℕ → Bool) (l : List ℕ) (k : ℕ) : Type 0 where

@@ -18,11 +18,11 @@ use Rattle.ledger.specs.Sound.{sized, sound}
 use Rattle.ledger.specs.Checks.{isFree, isReference, isCode, taken}
 use Rattle.ledger.specs.Write.{free}
 use Rattle.ledger.specs.Sweep.{swept}
-use Rattle.upkeep.proofs.Heads.{next-left}
-use Rattle.upkeep.proofs.Says.{of-sound}
-use Rattle.upkeep.proofs.Searches.{first-in, free-says, reference-says}
-use Rattle.upkeep.proofs.Kept.{sound-clock, sound-freed, sound-swept, sound-started, sound-pushed, sound-consented, sound-redeemed}
-use Rattle.upkeep.proofs.Ranges.{octets-challenge, octets-redirect, octets-free, octets-rec, octets-pushed, octets-consented, octets-redeemed, octets-clock, octets-next, octets-with, octets-started, octets-swept}
+use Rattle.ledger_laws.proofs.Heads.{next-left}
+use Rattle.ledger_laws.proofs.Says.{of-sound}
+use Rattle.ledger_laws.proofs.Searches.{first-in, free-says, reference-says}
+use Rattle.ledger_laws.proofs.Kept.{sound-clock, sound-freed, sound-swept, sound-started, sound-pushed, sound-consented, sound-redeemed}
+use Rattle.ledger_laws.proofs.Ranges.{octets-challenge, octets-redirect, octets-free, octets-rec, octets-pushed, octets-consented, octets-redeemed, octets-clock, octets-next, octets-with, octets-started, octets-swept}
 use Rattle.clients.specs.Known.{isKnown, placeOf}
 use Rattle.clients.specs.Sound.{sound as tableSound}
 use Rattle.clients.proofs.Laws.{of-sound as of-table}
@@ -41,10 +41,10 @@ use Rattle.desk.specs.declared.answer.Answer.{Answer}
 use Rattle.desk.specs.declared.answer.Decided.{Decided}
 use Rattle.desk.specs.declared.answer.Swept.{Swept}
 use Rattle.desk.proofs.Turns.{number-refused}
-use Rattle.conduct.proofs.Rows.{push-cases, decide-cases, token-cases, resource-cases, sweep-cases}
-use Rattle.conduct.proofs.Facts.{push-facts, DecideFacts, decide-facts, token-facts, resource-facts, sweep-facts}
-use Rattle.conduct.proofs.Alone.{either-way}
-use Rattle.conduct.proofs.Readings.{known-is, scope-says, code-waits}
+use Rattle.call_laws.proofs.Rows.{push-cases, decide-cases, token-cases, resource-cases, sweep-cases}
+use Rattle.call_laws.proofs.Facts.{push-facts, DecideFacts, decide-facts, token-facts, resource-facts, sweep-facts}
+use Rattle.call_laws.proofs.Alone.{either-way}
+use Rattle.call_laws.proofs.Readings.{known-is, scope-says, code-waits}
 
 -- ---- what the types of a request say: fixed arrays have their lengths, numbers their widths, and bytes are below 256
 

@@ -17,8 +17,8 @@ use Rattle.ledger.specs.Sound.{sound}
 use Rattle.ledger.specs.Write.{free}
 use Rattle.ledger.specs.declared.state.State.the-variants.{Free}
 use Rattle.ledger.proofs.Records.{length-with, slots-with, rec-same, rec-other}
-use Rattle.upkeep.proofs.Says.{SoundUsed, SoundRecord, SoundRecords, SoundLedger, Common, common-sym, of-sound, to-sound}
-use Rattle.upkeep.proofs.Heads.{length-next, slots-next, rec-next, clock-next, rest-next, next-is, clock-with, next-with, rest-with}
+use Rattle.ledger_laws.proofs.Says.{SoundUsed, SoundRecord, SoundRecords, SoundLedger, Common, common-sym, of-sound, to-sound}
+use Rattle.ledger_laws.proofs.Heads.{length-next, slots-next, rec-next, clock-next, rest-next, next-is, clock-with, next-with, rest-with}
 
 -- ---- a free record
 

@@ -14,7 +14,7 @@ use Rattle.octets.proofs.Tabulate.{tabulate-same}
 use Rattle.ledger.specs.Limits.{lastNumber}
 use Rattle.ledger.specs.Fields.{clock, withClock, nextNumber, withNext, headRest, rec, slots, records, withRecord}
 use Rattle.ledger.proofs.Records.{slot-within}
-use Rattle.upkeep.proofs.Puts.{drop-put, take-put}
+use Rattle.ledger_laws.proofs.Puts.{drop-put, take-put}
 
 -- ---- the clock written
 

@@ -18,8 +18,8 @@ use Rattle.ledger.specs.Limits.{recordSize}
 use Rattle.ledger.specs.Fields.{stateSpan, redirectLengthSpan, gapOneSpan, scopeSpan, grantSpan, expirySpan, holderSpan, clientSpan, challengeSpan, gapTwoSpan, valueSpan, tokenSpan, boundKeySpan, redirectSpan, withRedirect, state, stateNumber, redirectLength, gapOne, gapTwo, scope, grant, expiry, holder, client, challenge, value, token, boundKey, redirectField, redirect, behindRedirect}
 use Rattle.ledger.specs.Write.{pushed, consented, redeemed}
 use Rattle.ledger.specs.declared.state.State.the-variants.{Pushed, Consented, Redeemed}
-use Rattle.upkeep.proofs.Slots.{Slot, slotOf, pushedSlot, consentedSlot, redeemedSlot}
-use Rattle.upkeep.proofs.Puts.{put-wide, byte-at, Store, of-number, of-bytes, stored, clean, spared, reads, length-stored, stored-reads, stored-spared}
+use Rattle.ledger_laws.proofs.Slots.{Slot, slotOf, pushedSlot, consentedSlot, redeemedSlot}
+use Rattle.ledger_laws.proofs.Puts.{put-wide, byte-at, Store, of-number, of-bytes, stored, clean, spared, reads, length-stored, stored-reads, stored-spared}
 
 -- the record s says x, and its zero fields say what those of r do
 pub record Wrote (r s : List ℕ) (x : Slot) : Type 0 where

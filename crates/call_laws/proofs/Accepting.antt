@@ -19,8 +19,8 @@ use Rattle.ledger.specs.Limits.{lastNumber}
 use Rattle.ledger.specs.Fields.{nextNumber, rec, records, inState, scope, holder, challenge, boundKey}
 use Rattle.ledger.specs.Checks.{isFree, isReference, isCode, isToken, expired, taken}
 use Rattle.ledger.specs.declared.state.State.the-variants.{Redeemed}
-use Rattle.upkeep.proofs.Plain.{size-says, ledger-says}
-use Rattle.upkeep.proofs.Searches.{some-in, first-in, reference-first, code-first, token-first}
+use Rattle.ledger_laws.proofs.Plain.{size-says, ledger-says}
+use Rattle.ledger_laws.proofs.Searches.{some-in, first-in, reference-first, code-first, token-first}
 use Rattle.clients.specs.Fields.{permitted, client as entry}
 use Rattle.clients.specs.Known.{placeOf}
 use Rattle.clients.proofs.Laws.{table-says}
@@ -34,11 +34,11 @@ use Rattle.desk.specs.Token.{codePlace, token}
 use Rattle.desk.specs.Resource.{tokenPlace, resource}
 use Rattle.desk.specs.Sweep.{sweep}
 use Rattle.desk.specs.Start.{start}
-use Rattle.conduct.specs.Conditions.{FreshValue}
-use Rattle.conduct.specs.Accepted.{StartAccepted, PushAccepted, DecideAccepted, TokenAccepted, ResourceAccepted, SweepAccepted}
-use Rattle.conduct.proofs.Rows.{push-passed, decide-passed, token-passed, resource-passed, sweep-passed, start-passed}
-use Rattle.conduct.proofs.Facts.{PushFacts, push-facts, facts-push, DecideFacts, decide-facts, facts-decide, TokenFacts, token-facts, facts-token, ResourceFacts, resource-facts, facts-resource, sweep-facts, facts-sweep}
-use Rattle.conduct.proofs.Readings.{time-says, known-is, is-known, scope-says, fresh-says, alive-says, match-says, place-named, free-stands, reference-stands, code-stands, token-stands}
+use Rattle.call_laws.specs.Conditions.{FreshValue}
+use Rattle.call_laws.specs.Accepted.{StartAccepted, PushAccepted, DecideAccepted, TokenAccepted, ResourceAccepted, SweepAccepted}
+use Rattle.call_laws.proofs.Rows.{push-passed, decide-passed, token-passed, resource-passed, sweep-passed, start-passed}
+use Rattle.call_laws.proofs.Facts.{PushFacts, push-facts, facts-push, DecideFacts, decide-facts, facts-decide, TokenFacts, token-facts, facts-token, ResourceFacts, resource-facts, facts-resource, sweep-facts, facts-sweep}
+use Rattle.call_laws.proofs.Readings.{time-says, known-is, is-known, scope-says, fresh-says, alive-says, match-says, place-named, free-stands, reference-stands, code-stands, token-stands}
 
 -- ---- start
 

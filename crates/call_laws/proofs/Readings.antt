@@ -19,8 +19,8 @@ use Rattle.ledger.specs.Limits.{clockLimit}
 use Rattle.ledger.specs.Fields.{clock, rec, slots, records, state, stateNumber, inState, expiry, client, value}
 use Rattle.ledger.specs.Checks.{untimely, isFree, isReference, isCode, isToken, expired, taken}
 use Rattle.ledger.specs.declared.state.State.the-variants.{Pushed, Consented, Redeemed}
-use Rattle.upkeep.proofs.Says.{neither}
-use Rattle.upkeep.proofs.Searches.{First, some-in, first-in, first-place, free-says, reference-says, code-says, token-says, fresh-in, fresh-taken}
+use Rattle.ledger_laws.proofs.Says.{neither}
+use Rattle.ledger_laws.proofs.Searches.{First, some-in, first-in, first-place, free-says, reference-says, code-says, token-says, fresh-in, fresh-taken}
 use Rattle.clients.specs.Known.{isKnown, placeOf, known}
 use Rattle.clients.specs.Sound.{sound as tableSound}
 use Rattle.clients.specs.Plain.{KnownAt}
@@ -28,7 +28,7 @@ use Rattle.clients.specs.declared.known.Known.the-variants.{At}
 use Rattle.clients.proofs.Laws.{known-at, known-sound}
 use Rattle.desk.specs.Checks.{scopeFits, within}
 use Rattle.desk.proofs.Tests.{known-told, known-place}
-use Rattle.conduct.specs.Conditions.{InTime, ScopeWithin, FreshValue, FirstFree, StandsAt, TokenAt}
+use Rattle.call_laws.specs.Conditions.{InTime, ScopeWithin, FreshValue, FirstFree, StandsAt, TokenAt}
 
 -- ---- what several calls ask
 
