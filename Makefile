@@ -5,7 +5,6 @@
 #                                     headers, archive, shared library and a file for pkg-config
 
 PREFIX ?= /usr/local
-CC ?= cc
 VERSION := $(shell cat VERSION)
 INTERFACE := $(shell sed -n 's/^\#define PERDIGOLH_INTERFACE //p' include/perdigolh.h)
 ARCHIVE := target/staticlib/libfront.a

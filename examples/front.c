@@ -74,7 +74,7 @@ static void keep(store *s) {
     sync_folder(s->path);
 }
 
-/* Takes the lock, reads the file into the copy, and reads the clock: in this order. Answers whether there was a ledger. */
+/* Takes the lock, and only then reads the clock, and the file into the copy. Answers whether there was a ledger. */
 static int take(store *s) {
     FILE *file;
     s->locked = open(s->lock, O_RDWR | O_CREAT, 0600);
@@ -91,11 +91,23 @@ static int take(store *s) {
     if (!file && errno == ENOENT) {
         return 0;
     }
-    if (!file || fread(s->bytes, 1, sizeof s->bytes, file) != sizeof s->bytes || fgetc(file) != EOF) {
+    if (!file) {
         stop(s->path);
+    }
+    if (fread(s->bytes, 1, sizeof s->bytes, file) != sizeof s->bytes || fgetc(file) != EOF) {
+        fprintf(stderr, "%s: no ledger of %d records\n", s->path, RECORDS);
+        exit(1);
     }
     fclose(file);
     return 1;
+}
+
+/* The same for a ledger that must be there: one that is gone is not made again from an older copy. */
+static void take_started(store *s) {
+    if (!take(s)) {
+        fprintf(stderr, "%s: the ledger is gone\n", s->path);
+        exit(1);
+    }
 }
 
 /* Stores what an accepted call has left, and lets the lock go. A refusal has changed nothing, so there is nothing to store. */
@@ -148,7 +160,7 @@ static perdigolh_answer asked(store *s, const uint8_t *table, const uint8_t refe
 static void push(store *s, const uint8_t *table, const uint8_t reference[32]) {
     perdigolh_answer a;
     char text[PERDIGOLH_REFERENCE_TEXT + 1];
-    take(s);
+    take_started(s);
     a = asked(s, table, reference);
     if (a.number == PERDIGOLH_LEDGER_FULL && perdigolh_sweep(s->bytes, sizeof s->bytes, s->time).number == PERDIGOLH_DONE) {
         a = asked(s, table, reference);
@@ -166,7 +178,7 @@ static void push(store *s, const uint8_t *table, const uint8_t reference[32]) {
 static void decide(store *s, const uint8_t reference[32], const uint8_t code[32]) {
     perdigolh_decided d;
     uint8_t output[PERDIGOLH_OUTPUT_LEAST];
-    take(s);
+    take_started(s);
     d = perdigolh_decide(s->bytes, sizeof s->bytes, s->time, reference, buyer, PERDIGOLH_YES, manager, code, output, sizeof output);
     let_go(s, d.answer.number);
     printf("decide: %u, holder %llu, back to %.*s\n", d.answer.number, (unsigned long long)d.answer.holder, (int)d.length,
@@ -175,7 +187,7 @@ static void decide(store *s, const uint8_t reference[32], const uint8_t code[32]
 
 static void redeem(store *s, const uint8_t *table, const uint8_t code[32], const uint8_t token[32]) {
     perdigolh_answer a;
-    take(s);
+    take_started(s);
     a = perdigolh_token(s->bytes, sizeof s->bytes, s->time, table, PERDIGOLH_TABLE_BYTES(1), buyer, key, presented, code,
                         (const uint8_t *)verifier, strlen(verifier), token);
     let_go(s, a.number);
@@ -184,7 +196,7 @@ static void redeem(store *s, const uint8_t *table, const uint8_t code[32], const
 
 static void resource(store *s, const uint8_t token[32]) {
     perdigolh_answer a;
-    take(s);
+    take_started(s);
     a = perdigolh_resource(s->bytes, sizeof s->bytes, s->time, token, presented, weights, manager);
     let_go(s, a.number);
     printf("resource: %u, grant %llu, holder %llu\n", a.number, (unsigned long long)a.grant, (unsigned long long)a.holder);

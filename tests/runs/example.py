@@ -89,6 +89,9 @@ def installed(room):
     yield "with the shared library", run(program, Path(room, "a"), env=loaded).stdout == "start: 0\n" + grant(1)
     yield "with the archive", run("cc", "examples/front.c", f"-I{prefix}/include", f"{prefix}/lib/libperdigolh.a", "-o", other).returncode == 0
     yield "and run", run(other, Path(room, "b")).stdout == "start: 0\n" + grant(1)
+    in_rust = ["cargo", "run", "--offline", "--example", "grant", "--manifest-path", "bindings/rust/Cargo.toml", "--target-dir", "target/another"]
+    ran = run(*in_rust, env={**os.environ, "PERDIGOLH_ARCHIVE": f"{prefix}/lib"})
+    yield "from Rust", ran.returncode == 0 and "the code a second time: 15" in ran.stdout
     stage = Path(room, "stage")
     yield "DESTDIR is respected", run("make", "install", "PREFIX=/usr", f"DESTDIR={stage}").returncode == 0 and (stage / "usr/lib/libperdigolh.so.1").is_file()
     yield "and not written down", "prefix=/usr\n" in (stage / "usr/lib/pkgconfig/perdigolh.pc").read_text()

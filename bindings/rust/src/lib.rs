@@ -4,6 +4,9 @@
 //! Every call checks for itself what it reads, and ends with an answer or a [`Refusal`]; a refusal has changed nothing.
 //! What the front must have checked before a call is said at that call's request. docs/FRONT.md says how to keep the bytes.
 //!
+//! What a refusal is outside is [`Refusal::at`] a [`Call`]. A value travels by its `to_text` and comes back by its `from_text`,
+//! which reads one spelling. Nothing here shows a value, a code, a token, a verifier or a key by `Debug`.
+//!
 //! ```compile_fail
 //! let mut bytes = [0; perdigolh::ledger_bytes(1)];
 //! let mut one = perdigolh::Ledger::lent(&mut bytes);
@@ -13,18 +16,18 @@
 
 use std::fmt;
 
+mod outside;
 pub mod raw;
 mod refusal;
 mod request;
 mod text;
 mod value;
-mod wire;
 
+pub use outside::{Alarm, Call, Outside, Retry};
 pub use refusal::Refusal;
 pub use request::{Choice, Decide, Push, Read, Redeem};
 pub use text::REQUEST_URI;
 pub use value::{ClientId, Code, Key, Reference, Token};
-pub use wire::{Alarm, Call, Retry, Wire};
 
 /// The release, a million a major, a thousand a minor, one a patch, and the interface that the archive must have.
 pub const VERSION_NUMBER: u32 = 1000;

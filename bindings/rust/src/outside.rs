@@ -1,6 +1,6 @@
 //! What a refusal is outside: OAuth error, HTTP status, whether to try again, what to log, whether somebody is woken.
 //!
-//! docs/WIRE.md shows the table and says why; tests/lint/wire.py holds both to the numbers that each call gives.
+//! docs/OUTSIDE.md shows the table and says why; tests/lint/outside.py holds both to the numbers that each call gives.
 
 use crate::Refusal;
 
@@ -38,7 +38,7 @@ pub enum Alarm {
 
 /// What a refusal of a call is outside.
 #[derive(Clone, Copy, Debug, PartialEq, Eq, Hash)]
-pub struct Wire {
+pub struct Outside {
     /// The HTTP status; none where nobody outside has asked, at start and at sweep.
     pub status: Option<u16>,
     /// The OAuth error. None at decide, where the browser gets a page and is sent nowhere, and where no RFC has one.
@@ -58,13 +58,13 @@ macro_rules! option {
     };
 }
 
-macro_rules! wire {
+macro_rules! outside {
     ($($call:ident $refusal:ident: $status:tt, $error:tt, $retry:ident, $alarm:ident, $log:literal;)*) => {
         impl Refusal {
             /// What this refusal of a call is outside; nothing where the call does not give it.
-            pub fn at(self, call: Call) -> Option<Wire> {
+            pub fn at(self, call: Call) -> Option<Outside> {
                 match (call, self) {
-                    $((Call::$call, Refusal::$refusal) => Some(Wire {
+                    $((Call::$call, Refusal::$refusal) => Some(Outside {
                         status: option!($status),
                         error: option!($error),
                         retry: Retry::$retry,
@@ -78,7 +78,7 @@ macro_rules! wire {
     };
 }
 
-wire! {
+outside! {
     Start LedgerUnsound: -, -, Never, Always, "the ledger's name and length";
 
     Push LedgerUnsound: 500, "server_error", Never, Always, "the ledger's name and length";

@@ -12,9 +12,9 @@ const CALLS: [(Call, &[u8]); 6] = [
     (Call::Sweep, &[1, 2]),
 ];
 
-fn rows() -> impl Iterator<Item = (Call, Refusal, Wire)> {
+fn rows() -> impl Iterator<Item = (Call, Refusal, Outside)> {
     let all = CALLS.iter().flat_map(|&(call, _)| Refusal::ALL.iter().map(move |&refusal| (call, refusal)));
-    all.filter_map(|(call, refusal)| refusal.at(call).map(|wire| (call, refusal, wire)))
+    all.filter_map(|(call, refusal)| refusal.at(call).map(|said| (call, refusal, said)))
 }
 
 #[test]
@@ -28,10 +28,10 @@ fn a_row_for_each_number_of_each_call_and_no_other() {
 
 #[test]
 fn a_status_fits_its_error() {
-    for (call, refusal, wire) in rows() {
-        let outside = !matches!(call, Call::Start | Call::Sweep);
-        assert_eq!(wire.status.is_some(), outside, "{call:?} {refusal}");
-        let wanted = match wire.error {
+    for (call, refusal, said) in rows() {
+        let asked = !matches!(call, Call::Start | Call::Sweep);
+        assert_eq!(said.status.is_some(), asked, "{call:?} {refusal}");
+        let wanted = match said.error {
             Some("invalid_client" | "invalid_token") => Some(401),
             Some("insufficient_scope") => Some(403),
             Some("invalid_request" | "invalid_scope" | "invalid_grant") => Some(400),
@@ -40,13 +40,13 @@ fn a_status_fits_its_error() {
             Some(other) => panic!("{other}"),
             None => continue,
         };
-        assert_eq!(wire.status, wanted, "{call:?} {refusal}");
+        assert_eq!(said.status, wanted, "{call:?} {refusal}");
     }
 }
 
 #[test]
 fn errors_are_those_of_the_endpoint() {
-    for (call, refusal, wire) in rows() {
+    for (call, refusal, said) in rows() {
         let known: &[&str] = match call {
             Call::Start | Call::Decide | Call::Sweep => &[],
             // RFC 9126, section 2.3: those of RFC 6749, sections 5.2 and 4.1.2.1
@@ -58,25 +58,25 @@ fn errors_are_those_of_the_endpoint() {
             // RFC 6750, section 3.1
             Call::Resource => &["invalid_token", "insufficient_scope"],
         };
-        assert!(wire.error.map_or(true, |error| known.contains(&error)), "{call:?} {refusal} {:?}", wire.error);
+        assert!(said.error.map_or(true, |error| known.contains(&error)), "{call:?} {refusal} {:?}", said.error);
     }
 }
 
 #[test]
 fn retries_and_alarms() {
-    for (call, refusal, wire) in rows() {
+    for (call, refusal, said) in rows() {
         let retry = match refusal.number() {
             2 => Retry::Time,
             7 => Retry::Fresh,
             8 => Retry::Sweep,
             _ => Retry::Never,
         };
-        assert_eq!(wire.retry, retry, "{call:?} {refusal}");
+        assert_eq!(said.retry, retry, "{call:?} {refusal}");
         let alarm = match refusal.number() {
             1 | 3 | 9 | 12 | 20 => Alarm::Always,
             2 | 7 | 8 => Alarm::Again,
             _ => Alarm::Never,
         };
-        assert_eq!(wire.alarm, alarm, "{call:?} {refusal}");
+        assert_eq!(said.alarm, alarm, "{call:?} {refusal}");
     }
 }

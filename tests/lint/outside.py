@@ -1,9 +1,9 @@
 #!/usr/bin/env python3
-"""The table of docs/WIRE.md: what each number at each call is outside.
+"""The table of docs/OUTSIDE.md: what each number at each call is outside.
 
-  tests/lint/wire.py check         the rows of bindings/rust/src/wire.rs are the numbers that each call gives, and the page has them
-  tests/lint/wire.py write         write the page's table anew
-  tests/lint/wire.py --self-test   drop each row of the bindings and of the page: each must be noticed
+  tests/lint/outside.py check         the rows of bindings/rust/src/outside.rs are the numbers that each call gives, and the page has them
+  tests/lint/outside.py write         write the page's table anew
+  tests/lint/outside.py --self-test   drop each row of the bindings and of the page: each must be noticed
 
 The names and the numbers of a call, in order, are read from the definitions in crates/desk/specs.
 """
@@ -14,7 +14,7 @@ sys.dont_write_bytecode = True
 from refusals import orders, read, rows as listed, spoilt  # noqa: E402
 from sources import TOP, tally  # noqa: E402
 
-SOURCE, PAGE = "bindings/rust/src/wire.rs", "docs/WIRE.md"
+SOURCE, PAGE = "bindings/rust/src/outside.rs", "docs/OUTSIDE.md"
 BEGIN, END = "<!-- rows -->", "<!-- end -->"
 HEAD = ["| Call | No. | Error | Status | Retry | Alarm | Log |", "|---|---|---|---|---|---|---|"]
 RETRY = {"Never": "no", "Time": "the time read anew", "Fresh": "another fresh value", "Sweep": "after a sweep"}
@@ -28,7 +28,7 @@ def numbers():
 
 def rows():
     """The rows of the bindings: call, number, and the cells behind them."""
-    body = read(SOURCE).rsplit("wire! {", 1)[1]
+    body = read(SOURCE).rsplit("outside! {", 1)[1]
     for call, name, status, error, retry, alarm, log in re.findall(r'^    (\w+) (\w+): (\S+), (\S+), (\w+), (\w+), "(.*)";$', body, re.M):
         error = "-" if error == "-" else f"`{error.strip(chr(34))}`"
         yield call.lower(), numbers()[name], [error, status, RETRY[retry], ALARM[alarm], log]
@@ -45,7 +45,7 @@ def results():
     yield "the calls", list(said), list(orders())
     for call, order in orders().items():
         yield f"the numbers of {call}", said.get(call), order
-    yield "every line of the bindings' table is read", sum(map(len, said.values())), read(SOURCE).rsplit("wire! {", 1)[1].count(";\n")
+    yield "every line of the bindings' table is read", sum(map(len, said.values())), read(SOURCE).rsplit("outside! {", 1)[1].count(";\n")
     shown = read(PAGE).partition(BEGIN)[2].partition(END)[0].split()
     yield "the page's table", shown, "\n".join(table()).split()
     explained = {int(n) for line in re.findall(r"^\| ([^|]+) \|[^|]*\|$", read(PAGE).partition("## Why")[2], re.M) for n in re.findall(r"\d+", line)}
