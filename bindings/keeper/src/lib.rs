@@ -28,6 +28,7 @@ mod kept;
 mod memo;
 mod name;
 mod record;
+mod replay;
 mod requests;
 mod step;
 
@@ -38,5 +39,6 @@ pub use file::Files;
 pub use keeper::Keeper;
 pub use kept::{Kept, Options};
 pub use name::Name;
+pub use replay::Replay;
 pub use requests::{Decide, Decided, Push, Pushed, Redeem, Redeemed};
 pub use step::Step;
