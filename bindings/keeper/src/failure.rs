@@ -42,7 +42,9 @@ impl fmt::Display for Failure {
             Failure::NoLedger => to.write_str("no ledger of this name was started"),
             Failure::Started => to.write_str("a ledger of this name was started before"),
             Failure::Damaged(what) => write!(to, "damaged: {what}"),
-            Failure::OldCopy { stored, known } => write!(to, "an old copy: step {stored} is stored, {known} was before"),
+            Failure::OldCopy { stored, known } => {
+                write!(to, "an old copy: step {stored} is stored, {known} was before")
+            }
             Failure::NotMade(trouble) => write!(to, "not made: {trouble}"),
             Failure::InDoubt(trouble) => write!(to, "in doubt: {trouble}"),
         }

@@ -27,6 +27,8 @@ mod keeper;
 mod kept;
 mod memo;
 mod name;
+#[cfg(feature = "postgres")]
+mod postgres;
 mod record;
 mod replay;
 mod requests;
@@ -39,6 +41,8 @@ pub use file::Files;
 pub use keeper::Keeper;
 pub use kept::{Kept, Options};
 pub use name::Name;
+#[cfg(feature = "postgres")]
+pub use postgres::Postgres;
 pub use replay::Replay;
 pub use requests::{Decide, Decided, Push, Pushed, Redeem, Redeemed};
 pub use step::Step;

@@ -26,7 +26,8 @@ fn a_full_ledger_is_swept_once() {
 
 #[test]
 fn a_taken_value_is_drawn_anew_once() {
-    for (draws, last) in [(vec![5, 5, 6], Ok(2)), (vec![5, 0, 6], Ok(2)), (vec![5, 5, 5, 6], Err(Refusal::FreshTaken))] {
+    for (draws, last) in [(vec![5, 5, 6], Ok(2)), (vec![5, 0, 6], Ok(2)), (vec![5, 5, 5, 6], Err(Refusal::FreshTaken))]
+    {
         let room = Room::new("draw");
         room.started(4, PLAIN);
         let left = Mutex::new(draws.into_iter());

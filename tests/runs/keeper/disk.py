@@ -25,12 +25,13 @@ class Disk:
             names.append(f"{file.name} {inode}\n")
         (self.safe / "list").write_text("".join(names))
 
-    def lose_power(self):
+    def lose_power(self, all_of_it=False):
         """What the machine finds afterwards: names as at the folder's last sync or as they stood, contents as at each file's last sync
-        or as they stood, and a file that was never synced cut anywhere."""
+        or as they stood, and a file that was never synced cut anywhere; or all that was not synced lost."""
+        self.lost = 1 if all_of_it else 0.5
         listed = [line.split() for line in (self.safe / "list").read_text().splitlines()]
         now = {file.name: file.stat().st_ino for file in self.folder.iterdir()}
-        names = dict(now) if self.chance.random() < 0.5 else {name: int(inode) for name, inode in listed}
+        names = dict(now) if self.chance.random() >= self.lost else {name: int(inode) for name, inode in listed}
         contents = {name: self.content(name, inode, now) for name, inode in names.items()}
         shutil.rmtree(self.folder)
         self.folder.mkdir()
@@ -43,7 +44,7 @@ class Disk:
         current = (self.folder / name).read_bytes() if now.get(name) == inode else None
         if (self.safe / str(inode)).exists():
             synced = (self.safe / str(inode)).read_bytes()
-            if current is None or self.chance.random() < 0.5:
+            if current is None or self.chance.random() < self.lost:
                 return synced
             cut = len(synced) if current.startswith(synced) else len(current)
             return current[:self.chance.randint(cut, len(current))]

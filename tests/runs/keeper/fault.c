@@ -226,14 +226,18 @@ int rename(const char *from, const char *to) {
     return done;
 }
 
+/* The message that asks for a commit, and what is received after it, have names of their own. */
+static int at_commit;
+
 ssize_t send(int fd, const void *bytes, size_t length, int flags) {
     ssize_t done;
-    FAULTY("send", "socket", fd, done = REAL(send)(fd, bytes, fault == HALF && length > 1 ? length / 2 : length, flags))
+    at_commit = memmem(bytes, length, "COMMIT", 6) && !memmem(bytes, length, "COMMITTED", 9);
+    FAULTY(at_commit ? "commit" : "send", "socket", fd, done = REAL(send)(fd, bytes, length, flags))
     return done;
 }
 
 ssize_t recv(int fd, void *bytes, size_t length, int flags) {
     ssize_t done;
-    FAULTY("recv", "socket", fd, done = REAL(recv)(fd, bytes, length, flags))
+    FAULTY(at_commit ? "committed" : "recv", "socket", fd, done = REAL(recv)(fd, bytes, length, flags))
     return done;
 }

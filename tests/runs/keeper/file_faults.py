@@ -16,7 +16,7 @@ LINE_PROGRAM = TOP / "target/bin/perdigolh"
 class Files:
     """A folder with one ledger, north, and every line that was handed out of it."""
 
-    def __init__(self, program, room, records=200, options="jm", folder=None):
+    def __init__(self, program, room, records=20, options="jm", folder=None):
         self.folder = Path(folder or room)
         self.place = Place(f"files:{self.folder}", program)
         self.handed = []
@@ -64,27 +64,27 @@ def start_race(program, chance, rounds):
             assert outcomes == ["failed", "started"], f"{outcomes}: {files.handed}"
             assert sorted(grant for lines in files.handed for grant, *_ in words(lines, "push")) == ["1", "2"], files.handed
             files.check()
-    return rounds
+    return f"{rounds} runs"
 
 
 SCRIPT = ["start south 4 jm", "push north 1", "grants north 1 2 7", "push north 3", "sweep north"]
 
 
 def each_call(program, chance, rounds, how, **more):
-    """The fault at every call of the script in turn: file by file, read, write, sync and rename. Afterwards others go on."""
-    for at in itertools.count(1):
+    """The fault at every call of the script in turn, or at every so many-th: open, read, write, sync and rename. Then others go on."""
+    for tried, at in enumerate(itertools.count(chance.randint(1, rounds), rounds)):
         with tempfile.TemporaryDirectory() as room:
             files = Files(program, room)
             log = Path(room, "log")
             lines, status = files.run(*SCRIPT, root=files.folder / "", at=at, do=how, log=log, **more)
             if not log.exists():
-                return at - 1
+                return f"{tried} runs"
             fault = log.read_text().split()[0]
             assert (status == -9) == how.startswith("kill"), f"{how} at call {at}, {fault}: status {status}"
             told = set(failures(lines))
             assert told <= {"not-made", "in-doubt", "no-ledger"}, f"{how} at call {at}, {fault}: {lines}"
             files.lines("grants north 2 1 7", "push north 1")
-            files.check(replays=at % 8 == 0)
+            files.check(replays=tried % 8 == 0)
 
 
 def kills(program, chance, rounds, workers=4):
@@ -103,7 +103,7 @@ def kills(program, chance, rounds, workers=4):
             assert status == 0 and not failures(lines), lines
             calls, _ = files.check(replays=chance.random() < 0.1)
             made += len(calls)
-    return rounds, made
+    return f"{rounds} runs with {made} calls"
 
 
 def power(program, chance, rounds, workers=3):
@@ -124,12 +124,11 @@ def power(program, chance, rounds, workers=3):
             lines, status = files.run("sweep north", "push north 1")
             assert status == 0 and not failures(lines), lines
             files.check(replays=chance.random() < 0.1)
-    return rounds
+    return f"{rounds} runs"
 
 
 def power_at_each_call(program, chance, rounds):
-    """A process is killed at each call in turn, another answers what changes nothing, and the power goes."""
-    script = ["push north 1", "grants north 1 2 7"]
+    """A process is killed at each call in turn, another answers what changes nothing, and the power goes: all that was not synced is lost."""
     for at in itertools.count(1):
         with tempfile.TemporaryDirectory() as room:
             disk = Disk(room, chance)
@@ -137,15 +136,15 @@ def power_at_each_call(program, chance, rounds):
             disk.settle()
             pushed = files.run("push north 4", **disk.fault())[0]
             reference = words(pushed, "push")[0][2]
-            _, status = files.run(f"yes north 4 9 {reference}", *script, **disk.fault(at=at, do="kill-after"))
+            _, status = files.run(f"yes north 4 9 {reference}", "push north 1", **disk.fault(at=at, do="kill-after"))
             again, _ = files.run(f"yes north 4 9 {reference}", **disk.fault())
             assert len(words(again, "yes")) == 1, again
-            disk.lose_power()
+            disk.lose_power(all_of_it=True)
             files.check()
             assert files.lines(f"yes north 4 9 {reference}") == again, "the yes was decided a second time"
             files.check()
             if status == 0:
-                return at - 1
+                return f"{at - 1} runs"
 
 
 def lost_answers(program, chance, rounds):
@@ -164,7 +163,7 @@ def lost_answers(program, chance, rounds):
             calls, _ = files.check()
             assert sum(call.startswith("02") and answer.startswith("00") for call, answer in calls) == 1, "more than one decision"
             if status == 0:
-                return at - 1
+                return f"{at - 1} runs"
 
 
 def one_code(program, chance, rounds, clients=16):
@@ -181,7 +180,7 @@ def one_code(program, chance, rounds, clients=16):
             assert [line.split(" ")[0] for line in every] == ["refused"] * (clients - 1) + ["token"], every
             assert set(every[:-1]) == {"refused north token 15"}, every
         files.check(replays=True)
-    return rounds
+    return f"{rounds} runs"
 
 
 def torn(program, chance, rounds):
@@ -201,4 +200,4 @@ def torn(program, chance, rounds):
                 assert failures(lines) == ["damaged"] and len(lines) == 1, lines
             (files.folder / "north.ledger").write_bytes(whole)
         files.check(replays=True)
-    return rounds
+    return f"{rounds} runs"

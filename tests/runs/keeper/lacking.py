@@ -4,32 +4,32 @@ import shutil
 from workers import TOP
 
 KEEPER, WORKER = "bindings/keeper", "tests/runs/keeper"
+FILES, FILE_LOCK, POSTGRES = "src/file/mod.rs", "src/file/lock.rs", "src/postgres/mod.rs"
+RENAME, PUT = "fs::rename(&self.new, &self.ledger)", "self.put_in_place().and_then(|()| lock.set_known(kept.step))"
 # Each: the file, what stands in it, and what takes its place.
 EDITS = {
-    "lock": ("src/file/lock.rs", "unsafe { flock(file.as_raw_fd(), LOCK_EX) } == 0", "file.as_raw_fd() >= 0"),
-    "file-sync": ("src/file/mod.rs", "file.write_all(bytes)?;\n        file.sync_all()", "file.write_all(bytes)"),
-    "folder-sync": (
-        "src/file/mod.rs",
-        "fs::rename(&self.new, &self.ledger)?;\n        File::open(&self.folder)?.sync_all()",
-        "fs::rename(&self.new, &self.ledger)",
-    ),
+    "lock": (FILE_LOCK, "unsafe { flock(file.as_raw_fd(), LOCK_EX) } == 0", "file.as_raw_fd() >= 0"),
+    "file-sync": (FILES, "file.write_all(bytes)?;\n        file.sync_all()", "file.write_all(bytes)"),
+    "folder-sync": (FILES, f"{RENAME}?;\n        File::open(&self.folder)?.sync_all()", RENAME),
+    "journal-sync": ("src/file/append.rs", "file.sync_data()", "Ok(())"),
     "order": (
-        "src/file/mod.rs",
-        "Some(kept) => files.store(&kept, &lock).map_err(|(made, error)| match made {\n"
-        "                Made::No => Failure::not_made(error),\n"
-        "                Made::Perhaps => Failure::in_doubt(error),\n"
-        "            }),",
-        "Some(kept) => {\n"
+        FILES,
+        "Some(kept) => files",
+        "Some(kept) if kept.step > 1 => {\n"
         "                std::thread::spawn(move || files.store(&kept, &lock).is_ok());\n"
         "                Ok(())\n"
-        "            }",
+        "            }\n"
+        "            Some(kept) => files",
     ),
-    "settling": ("src/file/mod.rs", "Some(kept) if kept.step > known =>", "Some(kept) if kept.step > known + (1 << 40) =>"),
-    "doubt": (
-        "src/file/mod.rs",
-        "self.put_in_place().and_then(|()| lock.set_known(kept.step)).map_err(|error| (Made::Perhaps, error))",
-        "let _ = self.put_in_place().and_then(|()| lock.set_known(kept.step));\n        Ok(())",
+    "settling": (FILES, "Some(kept) if kept.step > known =>", "Some(kept) if kept.step > known + (1 << 40) =>"),
+    "doubt": (FILES, f"{PUT}.map_err(|error| (Made::Perhaps, error))", f"let _ = {PUT};\n        Ok(())"),
+    "for-update": (POSTGRES, " FOR UPDATE\"", "\""),
+    "commit-order": (
+        POSTGRES,
+        "Ok(()) => connection.commit()?,",
+        "Ok(()) => {\n                std::thread::spawn(move || connection.commit().is_ok());\n                return Ok(());\n            }",
     ),
+    "commit-doubt": (POSTGRES, "Ok(()) => connection.commit()?,", "Ok(()) => drop(connection.commit()),"),
 }
 LACKING = list(EDITS)
 
@@ -47,5 +47,5 @@ def lacking(what, build):
     text = file.read_text()
     assert text.count(old) == 1, f"{what}: {name} has changed"
     file.write_text(text.replace(old, new))
-    build(copy / WORKER, target=copy / "built")
+    build(copy / WORKER, ["postgres"], copy / "built")
     return copy / "built/release/keeper_worker"

@@ -45,7 +45,9 @@ impl Engine for Files {
             None if known > 0 => return Err(Failure::Damaged("the ledger is gone")),
             Some(kept) if kept.step < known => return Err(Failure::OldCopy { stored: kept.step, known }),
             // nobody saw that step's storing to its end, so it may not last yet
-            Some(kept) if kept.step > known => files.store(kept, &lock).map_err(|(_, error)| Failure::not_made(error))?,
+            Some(kept) if kept.step > known => {
+                files.store(kept, &lock).map_err(|(_, error)| Failure::not_made(error))?
+            }
             _ => {}
         }
         let change = step(stored.as_ref(), seconds()?)?;
