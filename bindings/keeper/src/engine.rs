@@ -1,5 +1,7 @@
 //! What a keeper asks of the place where ledgers are stored.
 
+use std::sync::Arc;
+
 use crate::{Failure, Kept, Name};
 
 /// What a step leaves to be stored.
@@ -16,6 +18,13 @@ pub trait Engine {
     ///
     /// `step` is run at most once. Where it fails, nothing is stored.
     fn exchange(&self, name: &Name, step: &mut StepOn<'_>) -> Result<(), Failure>;
+}
+
+/// Keepers of several ledgers share an engine: a connection to the server, say.
+impl<E: Engine + ?Sized> Engine for Arc<E> {
+    fn exchange(&self, name: &Name, step: &mut StepOn<'_>) -> Result<(), Failure> {
+        (**self).exchange(name, step)
+    }
 }
 
 /// What is stored, none where the ledger was not started; and the time, read under the lock, in seconds.

@@ -13,7 +13,7 @@ pub enum Failure {
     BadName,
     /// No ledger of this name was started.
     NoLedger,
-    /// A ledger of this name was started before, whether or not it is still there.
+    /// A ledger of this name was started before.
     Started,
     /// What is stored is not what a keeper stored: it is cut, spoilt or gone.
     Damaged(&'static str),

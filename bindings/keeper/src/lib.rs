@@ -35,7 +35,7 @@ mod requests;
 mod step;
 
 pub use checksum::checksum;
-pub use engine::{Change, Engine};
+pub use engine::{Change, Engine, StepOn};
 pub use failure::{Failure, Trouble};
 pub use file::Files;
 pub use keeper::Keeper;

@@ -152,53 +152,45 @@ static int to_disk(int fd, const char *path) {
     if (fault == AFTER)                           \
         after(fd);
 
-int open64(const char *path, int flags, ...) {
-    va_list words;
-    va_start(words, flags);
-    mode_t mode = (mode_t)va_arg(words, int);
-    va_end(words);
-    if (!below_root(path))
-        return REAL(open64)(path, flags, mode);
-    int opened;
-    FAULTY("open", path, -1, opened = REAL(open64)(path, flags, mode))
-    return opened;
-}
+#define OPEN(name)                                                        \
+    int name(const char *path, int flags, ...) {                          \
+        va_list words;                                                    \
+        va_start(words, flags);                                           \
+        mode_t mode = (mode_t)va_arg(words, int);                         \
+        va_end(words);                                                    \
+        if (!below_root(path))                                            \
+            return REAL(name)(path, flags, mode);                         \
+        int opened;                                                       \
+        FAULTY("open", path, -1, opened = REAL(name)(path, flags, mode)) \
+        return opened;                                                    \
+    }
 
-ssize_t write(int fd, const void *bytes, size_t length) {
-    char path[ROOM];
-    ssize_t done;
-    if (!path_of(fd, path))
-        return REAL(write)(fd, bytes, length);
-    FAULTY("write", path, fd, done = REAL(write)(fd, bytes, fault == HALF && length > 1 ? length / 2 : length))
-    return done;
-}
+OPEN(open)
+OPEN(open64)
 
-ssize_t pwrite64(int fd, const void *bytes, size_t length, off64_t at) {
-    char path[ROOM];
-    ssize_t done;
-    if (!path_of(fd, path))
-        return REAL(pwrite64)(fd, bytes, length, at);
-    FAULTY("write", path, fd, done = REAL(pwrite64)(fd, bytes, fault == HALF && length > 1 ? length / 2 : length, at))
-    return done;
-}
+/* Reads and writes, those at a place too; short ones come to half. */
+#define SHORT(length) (fault == HALF && (length) > 1 ? (length) / 2 : (length))
+#define PIECE(name, kind, parameters, ...)                                              \
+    ssize_t name parameters {                                                           \
+        char path[ROOM];                                                                \
+        ssize_t done;                                                                   \
+        enum fault fault = path_of(fd, path) ? fault_at(kind, path, fd) : NONE;         \
+        if (fault == FAIL) {                                                            \
+            errno = failing;                                                            \
+            return -1;                                                                  \
+        }                                                                               \
+        done = REAL(name)(fd, bytes, SHORT(length)__VA_ARGS__);                         \
+        if (fault == AFTER)                                                             \
+            after(fd);                                                                  \
+        return done;                                                                    \
+    }
 
-ssize_t read(int fd, void *bytes, size_t length) {
-    char path[ROOM];
-    ssize_t done;
-    if (!path_of(fd, path))
-        return REAL(read)(fd, bytes, length);
-    FAULTY("read", path, fd, done = REAL(read)(fd, bytes, fault == HALF && length > 1 ? length / 2 : length))
-    return done;
-}
-
-ssize_t pread64(int fd, void *bytes, size_t length, off64_t at) {
-    char path[ROOM];
-    ssize_t done;
-    if (!path_of(fd, path))
-        return REAL(pread64)(fd, bytes, length, at);
-    FAULTY("read", path, fd, done = REAL(pread64)(fd, bytes, fault == HALF && length > 1 ? length / 2 : length, at))
-    return done;
-}
+PIECE(write, "write", (int fd, const void *bytes, size_t length))
+PIECE(read, "read", (int fd, void *bytes, size_t length))
+PIECE(pwrite, "write", (int fd, const void *bytes, size_t length, off_t at), , at)
+PIECE(pwrite64, "write", (int fd, const void *bytes, size_t length, off64_t at), , at)
+PIECE(pread, "read", (int fd, void *bytes, size_t length, off_t at), , at)
+PIECE(pread64, "read", (int fd, void *bytes, size_t length, off64_t at), , at)
 
 int fsync(int fd) {
     char path[ROOM];

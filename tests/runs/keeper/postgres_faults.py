@@ -7,7 +7,7 @@ from pathlib import Path
 from subprocess import CalledProcessError
 
 import count
-from file_faults import replayed
+from file_faults import one_token, replayed
 from server import Server, send
 from workers import Place, ended, failures, words
 
@@ -164,8 +164,7 @@ def one_code(rows, chance, rounds):
         code = words(rows.lines(f"yes NAME 1 7 {reference}"), "yes")[0][3]
         lines = rows.place.together([[f"token {rows.name} 1 {code}"]] * 16, lead=0.2)
         rows.handed += lines
-        every = sorted(line for lines in lines for line in lines)
-        assert every[:15] == [f"refused {rows.name} token 15"] * 15 and every[15].startswith("token "), every
+        one_token(lines)
     rows.check(replays=True)
     return f"{rounds} runs"
 

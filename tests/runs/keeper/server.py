@@ -5,6 +5,7 @@ import shutil
 import signal
 import subprocess
 import tempfile
+import threading
 import time
 from pathlib import Path
 
@@ -21,20 +22,32 @@ log_min_messages = fatal
 
 
 class Server:
-    def __init__(self, settings=""):
+    first, once = None, threading.Lock()
+
+    def __init__(self, settings="", folder="/tmp"):
         assert BINARIES, "no PostgreSQL server: install Debian's package postgresql"
-        self.room = Path(tempfile.mkdtemp(prefix="keeper-", dir="/tmp"))
+        self.room = Path(tempfile.mkdtemp(prefix="keeper-", dir=folder))
         self.data = self.room / "data"
         self.user = PACKAGE_USER if os.getuid() == 0 else None
-        if self.user:
-            shutil.chown(self.room, self.user)
-        os.chmod(self.room, 0o755)
-        self.command("initdb", "-D", self.data, "-A", "trust", "-U", "owner", "--no-sync", "--locale=C", "-E", "UTF8")
+        self.initialise()
         with open(self.data / "postgresql.conf", "a", encoding="utf8") as file:
             file.write(f"{SETTINGS}unix_socket_directories = '{self.room}'\n{settings}\n")
         self.start()
         self.sql("CREATE ROLE front LOGIN")
         self.psql("-v", "front=front", "-f", TOP / "bindings/keeper/postgres.sql")
+
+    def initialise(self):
+        """initdb once; every other server begins with a copy of what it left."""
+        os.chmod(self.room, 0o755)
+        if self.user:
+            shutil.chown(self.room, self.user)
+        with Server.once:
+            if not Server.first:
+                self.command("initdb", "-D", self.data, "-A", "trust", "-U", "owner", "--no-sync", "--locale=C", "-E", "UTF8")
+                Server.first = tempfile.TemporaryDirectory(prefix="keeper-first-")
+                subprocess.run(["cp", "-a", self.data, Server.first.name], check=True)
+            else:
+                subprocess.run(["cp", "-a", f"{Server.first.name}/data", self.room], check=True)
 
     def command(self, name, *words, **more):
         run = ["runuser", "-u", self.user, "--"] if self.user else []
