@@ -177,16 +177,16 @@ def one_token(workers):
 
 def one_code(program, chance, rounds, clients=16):
     """So many processes redeem one code at one moment: exactly one gets a token."""
-    with tempfile.TemporaryDirectory() as room:
-        files = Files(program, room)
-        files.place.tick = 1000
-        for _ in range(rounds):
+    for _ in range(rounds):
+        with tempfile.TemporaryDirectory() as room:
+            files = Files(program, room)
+            files.place.tick = 1000
             reference = words(files.lines("push north 1"), "push")[0][2]
             code = words(files.lines(f"yes north 1 7 {reference}"), "yes")[0][3]
             lines = files.place.together([[f"token north 1 {code}"]] * clients, lead=0.1)
             files.handed += lines
             one_token(lines)
-        files.check(replays=True)
+            files.check(replays=True)
     return f"{rounds} runs"
 
 

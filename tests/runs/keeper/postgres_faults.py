@@ -157,15 +157,15 @@ def server_kills(rows, chance, rounds):
 @with_server
 def one_code(rows, chance, rounds):
     """Sixteen processes redeem one code at one moment: exactly one gets a token."""
-    rows.begin(records=200)
     rows.place.tick = 1000
     for _ in range(rounds):
+        rows.begin()
         reference = words(rows.lines("push NAME 1"), "push")[0][2]
         code = words(rows.lines(f"yes NAME 1 7 {reference}"), "yes")[0][3]
         lines = rows.place.together([[f"token {rows.name} 1 {code}"]] * 16, lead=0.2)
         rows.handed += lines
         one_token(lines)
-    rows.check(replays=True)
+        rows.check(replays=True)
     return f"{rounds} runs"
 
 
