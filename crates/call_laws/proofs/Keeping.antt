@@ -22,7 +22,7 @@ use Rattle.ledger_laws.proofs.Heads.{next-left}
 use Rattle.ledger_laws.proofs.Says.{of-sound}
 use Rattle.ledger_laws.proofs.Searches.{first-in, free-says, reference-says}
 use Rattle.ledger_laws.proofs.Kept.{sound-clock, sound-freed, sound-swept, sound-started, sound-pushed, sound-consented, sound-redeemed}
-use Rattle.ledger_laws.proofs.Ranges.{octets-challenge, octets-redirect, octets-free, octets-rec, octets-pushed, octets-consented, octets-redeemed, octets-clock, octets-next, octets-with, octets-started, octets-swept}
+use Rattle.ledger_laws.proofs.Ranges.{octets-challenge, octets-redirect, octets-free, octets-rec, octets-pushed, octets-consented, octets-redeemed, octets-clock, octets-next, octets-with, octets-swept}
 use Rattle.clients.specs.Known.{isKnown, placeOf}
 use Rattle.clients.specs.Sound.{sound as tableSound}
 use Rattle.clients.proofs.Laws.{of-sound as of-table}
@@ -212,12 +212,3 @@ start-sound l = by (sized l) refl
         → sound ((cond b (left done (emptyLedger (length l))) (left (numberOf LedgerUnsound) l)) .ledger) ≡ true
     by true p e = sound-started l p
     by false p e = absurd (number-refused LedgerUnsound e)
-
-pub start-octets : (l : List ℕ) → (start l) .answer ≡ done → Octets ((start l) .ledger)
-unfolding start emptyLedger
-start-octets l = by (sized l)
-  where
-    by : (b : Bool) → (cond b (left done (emptyLedger (length l))) (left (numberOf LedgerUnsound) l)) .answer ≡ done
-        → Octets ((cond b (left done (emptyLedger (length l))) (left (numberOf LedgerUnsound) l)) .ledger)
-    by true e = octets-started (length l)
-    by false e = absurd (number-refused LedgerUnsound e)

@@ -12,7 +12,7 @@ use Rattle.ledger.specs.Fields.{records, rec, withClock}
 use Rattle.ledger.specs.Checks.{isFree}
 use Rattle.ledger.specs.Sound.{sized}
 use Rattle.ledger.specs.Sweep.{freed, swept}
-use Rattle.desk.specs.Answers.{numberOf, done, answerOf, refused, undecided, sweptOf, unswept}
+use Rattle.desk.specs.Answers.{numberOf, done, answerOf, sweptOf}
 use Rattle.desk.specs.Checks.{Check, _when_, Verdict, accepted, stopped, first}
 use Rattle.desk.specs.Requests.{PushRequest, DecideRequest, TokenRequest, ResourceRequest}
 use Rattle.desk.specs.Outcome.{Outcome, left, concludes}

@@ -7,6 +7,7 @@ use mathlib.Core.Bool.{Bool, true, false}
 use mathlib.Core.List.{List, [], _∷_, _++_}
 use lib.Dec.{lit≤, eqb}
 use borrow.Author.Tests.{eqb-true, eqb-false}
+use Rattle.octets.specs.Plain.{Bytes}
 use Rattle.octets.proofs.Parts.{differ-is}
 use lib.ListN.{length}
 use Rattle.desk.specs.Checks.{first}
@@ -14,7 +15,7 @@ use Rattle.desk.specs.Requests.{PushRequest}
 use Rattle.desk.specs.Push.{pushAt}
 use Rattle.desk.specs.Answers.{done}
 use Rattle.ledger.specs.Sweep.{freed}
-use Rattle.history.specs.Runs.{Call, push, sweep, Bytes, TypedPush, step, numberIn, started, last, AllTyped, Said, swept as says, grantOf}
+use Rattle.history.specs.Runs.{Call, push, sweep, TypedPush, step, numberIn, started, last, AllTyped, Said, swept as says, grantOf}
 use Rattle.ledger.specs.Fields.{nextNumber}
 use Rattle.ledger.specs.declared.sweep.Freed.{Freed}
 use Rattle.desk.specs.Outcome.{Outcome}

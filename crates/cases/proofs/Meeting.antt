@@ -6,6 +6,7 @@ use mathlib.Core.Bool.{true}
 use mathlib.Core.List.{List}
 use lib.Dec.{lit≤}
 use lib.ListN.{length, replicate}
+use Rattle.octets.specs.Plain.{Bytes}
 use Rattle.octets.specs.Lists.{tabulate}
 use Rattle.octets.specs.Numbers.{numFrom, num, digits}
 use Rattle.octets.specs.Parts.{laid, put, blank, zeros, same}
@@ -35,7 +36,7 @@ use Rattle.octets.proofs.Parts.{length-blank}
 use Rattle.desk.specs.Decide.{decideChecks, consentRecord, consentAt, declineAt, decideAt, decide as doDecide}
 use Rattle.desk.specs.Token.{tokenChecks, tokenRecord, tokenAt, token as doToken}
 use Rattle.desk.specs.Resource.{resourceChecks, look, resource as doResource}
-use Rattle.history.specs.Runs.{Call, push, decide, token, resource, sweep, Bytes, step, numberIn, started}
+use Rattle.history.specs.Runs.{Call, push, decide, token, resource, sweep, step, numberIn, started}
 use Rattle.cases.specs.Order.{elseInOrder}
 use Rattle.history.proofs.Steps.{checksOf}
 use Rattle.cases.specs.Cases.{Input, InOrder, DecideAfter, TokenAfter, ResourceAfter, PushScope, SweepFresh, TokenVerifier, PushRedirect, DecideFresh}

@@ -5,6 +5,7 @@ use mathlib.Core.Logic.{_≢_}
 use mathlib.Core.Bool.{true, cond}
 use mathlib.Core.List.{List}
 use lib.ListN.{length, getD}
+use Rattle.octets.specs.Plain.{Bytes}
 use Rattle.octets.specs.Lists.{every}
 use Rattle.forms.specs.Forms.{unreserved, challengeFormed, verifierFormed}
 use Rattle.sha256.specs.Pad.{blocks}
@@ -18,7 +19,7 @@ use Rattle.desk.specs.Decide.{referencePlace, decideChecks}
 use Rattle.desk.specs.Token.{codePlace, tokenChecks}
 use Rattle.desk.specs.Resource.{tokenPlace, resourceChecks}
 use Rattle.desk.specs.declared.answer.Refusal.the-variants.{IllFormed, ScopeRefused, FreshTaken, RecordExpired}
-use Rattle.history.specs.Runs.{Call, push, decide, token, resource, sweep, Bytes, TypedPush, TypedDecide, TypedToken, step, numberIn, started}
+use Rattle.history.specs.Runs.{Call, push, decide, token, resource, sweep, TypedPush, TypedDecide, TypedToken, step, numberIn, started}
 use Rattle.cases.specs.Order.{elseInOrder}
 
 -- the call, and the one thing that is varied in it

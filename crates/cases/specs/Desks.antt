@@ -5,13 +5,14 @@ use mathlib.Core.Path.{_≡_}
 use mathlib.Core.Logic.{_≢_, _⊎_}
 use mathlib.Core.List.{List, [], _∷_, _++_}
 use lib.ListN.{length}
+use Rattle.octets.specs.Plain.{Bytes}
 use Rattle.ledger.specs.Limits.{recordsLeast, recordsMost}
 use Rattle.ledger.specs.Fields.{nextNumber}
 use Rattle.ledger.specs.Sweep.{freed}
 use Rattle.ledger.specs.declared.sweep.Freed.{Freed}
 use Rattle.desk.specs.Answers.{done}
 use Rattle.desk.specs.Requests.{PushRequest, DecideRequest}
-use Rattle.history.specs.Runs.{Call, push, decide, token, resource, sweep, Bytes, TypedPush, AllTyped, Said, answered, decided, swept, step, numberIn, grantOf, started, last}
+use Rattle.history.specs.Runs.{Call, push, decide, token, resource, sweep, TypedPush, AllTyped, Said, answered, decided, swept, step, numberIn, grantOf, started, last}
 
 -- ---- a desk, and what the promises allow it
 

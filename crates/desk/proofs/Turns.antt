@@ -1,10 +1,10 @@
 -- "The first check that fails gives the answer", and a row is "given exactly when its turn comes": one law over any list of checks.
 use Prim.Native.Nat.{ℕ, zero, suc, _≤_}
 use native.Mathlib.Omega.{arith}
-use mathlib.Core.Path.{_≡_, refl, sym, ap, ap₂, _∙_}
+use mathlib.Core.Path.{_≡_, refl, sym, ap, _∙_}
 use mathlib.Core.Logic.{_≢_, _⊎_, inl, inr, ⊎-elim, _↔_}
 use mathlib.Core.Bool.{Bool, true, false, cond, true≢false, false≢true}
-use mathlib.Core.List.{List, [], _∷_, _++_}
+use mathlib.Core.List.{List, [], _∷_}
 use lib.Dec.{lit≤}
 use lib.ListN.{getD, drop}
 use Rattle.desk.specs.Answers.{numberOf, done}
@@ -55,33 +55,6 @@ pub first-turn : (cs : List Check) (why : Refusal) → (first cs ≡ stopped why
 unfolding first
 first-turn [] why = (λ e. refused-accepted why (sym e), λ p. absurd p)
 first-turn (c ∷ cs) why = turn-by (c .holds) (c .why) why (first cs) (Turn why cs) (first-turn cs why)
-
--- in other words: the list is some checks that have passed, then this row with its condition, then any others
-pub record Reached (why : Refusal) (cs : List Check) : Type 0 where
-  pub before : List Check
-  pub behind : List Check
-  pub whole : cs ≡ before ++ ((why when true) ∷ behind)
-  pub passed : Passed before
-
-pub turn-reached : (cs : List Check) (why : Refusal) → Turn why cs ↔ Reached why cs
-turn-reached cs why = (of cs, λ r. rw (r .whole) (to (r .before) (r .behind) (r .passed)))
-  where
-    one : (c : Check) (cs : List Check) → c .holds ≡ true → c .why ≡ why → (c ∷ cs) ≡ ((why when true) ∷ cs)
-    one c cs h w = ap₂ (λ (x : Refusal) (b : Bool). (x when b) ∷ cs) w h
-
-    of : (cs : List Check) → Turn why cs → Reached why cs
-    of [] t = absurd t
-    of (c ∷ cs) t =
-        ⊎-elim {C = Reached why (c ∷ cs)}
-        (λ x. record { before = []; behind = cs; whole = one c cs (x .0) (x .1); passed = tt })
-        (λ y.
-        let r = of cs (y .1) in
-        record { before = c ∷ r .before; behind = r .behind; whole = ap (λ (ds : List Check). c ∷ ds) (r .whole); passed = (y .0, r .passed) })
-        t
-
-    to : (before behind : List Check) → Passed before → Turn why (before ++ ((why when true) ∷ behind))
-    to [] behind p = inl (refl, refl)
-    to (c ∷ cs) behind p = inr (p .0, to cs behind (p .1))
 
 -- so what holds after every refusal and after an acceptance holds of the call
 pub by-turns : (cs : List Check) (P : Verdict → Type 0) → ((why : Refusal) → Turn why cs → P (stopped why)) → (Passed cs → P accepted) → P (first cs)

@@ -95,10 +95,6 @@ verifier-says s =
       λ w. to ((w .least, w .most), w .each),
     )
 
--- no byte of a redirect is zero
-pub redirect-nonzero : (s : List ℕ) → redirectFormed s ≡ true → (i : ℕ) → i < length s → 0 < getD s i 0
-redirect-nonzero s e i h = omega (arith, redirect-says s .0 e .each i h)
-
 pub redirect-length : (s : List ℕ) → redirectFormed s ≡ true → (redirectLeast ≤ length s) × (length s ≤ redirectMost)
 redirect-length s e = let w = redirect-says s .0 e in (w .least, w .most)
 

@@ -3,7 +3,7 @@
 use Prim.Native.Nat.{ℕ, zero, suc, _+_, _%_, _≤_, _<_}
 use native.Mathlib.Omega.{arith}
 use mathlib.Core.Path.{_≡_, refl, sym, _∙_}
-use mathlib.Core.Bool.{Bool, true, false, _&&_, cond, and-false, false≢true}
+use mathlib.Core.Bool.{Bool, true, false, cond, and-false, false≢true}
 use mathlib.Core.List.{List, []}
 use lib.Dec.{eqb, leb}
 use lib.ListN.{length, getD}
@@ -40,15 +40,6 @@ module _ (line : List ℕ) where
   pub too-many-digits : lineMost < length line → frameKind line ≡ NoFrame
   unfolding frameKind
   too-many-digits h = rw (lt-leb (length line) lineMost h)
-
-  -- its bytes are none of the kinds
-  pub no-kind : kindOf (decoded line) ≡ NoFrame → frameKind line ≡ NoFrame
-  unfolding frameKind
-  no-kind e = rw e (go (leb (length line) lineMost && isHex line))
-    where
-      go : (b : Bool) → cond b NoFrame NoFrame ≡ NoFrame
-      go true = refl
-      go false = refl
 
 pub empty-line : frameKind [] ≡ NoFrame
 unfolding frameKind isHex decoded kindOf among fits

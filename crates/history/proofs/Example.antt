@@ -7,6 +7,7 @@ use mathlib.Core.List.{List, [], _∷_}
 use lib.Dec.{ltb, lit≤}
 use lib.ListN.{length, replicate}
 use borrow.Author.Tests.{ltb-true}
+use Rattle.octets.specs.Plain.{Bytes, Array}
 use Rattle.octets.specs.Lists.{every, tabulate}
 use Rattle.octets.specs.Numbers.{numFrom, num, digits}
 use Rattle.octets.proofs.Tests.{both}
@@ -36,7 +37,7 @@ use Rattle.desk.specs.Decide.{decideChecks, consentRecord, consentAt, declineAt
 use Rattle.desk.specs.Token.{tokenChecks, tokenRecord, tokenAt, token as doToken}
 use Rattle.desk.specs.Resource.{resourceChecks, look, resource as doResource}
 use Rattle.desk.specs.Sweep.{sweepChecks, sweep as doSweep}
-use Rattle.history.specs.Runs.{push, decide, token, Bytes, Array, TypedPush, TypedDecide, TypedToken, TypedResource, step}
+use Rattle.history.specs.Runs.{push, decide, token, TypedPush, TypedDecide, TypedToken, TypedResource, step}
 use Rattle.history.specs.Events.{Push, Consent, Token, SecondUse, event, listed}
 use Rattle.history.specs.Example.{program, programKey, table, secret, text43, target, room, asks, allows, declines, redeems, reads, Example}
 

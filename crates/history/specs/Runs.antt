@@ -1,10 +1,9 @@
 -- "Start a ledger once, then make the other calls in any order, refused ones included, nobody else writing to it."
 use Prim.Native.Nat.{ℕ, _+_, _*_, _<_, _^_}
-use mathlib.Core.Path.{_≡_}
 use mathlib.Core.Bool.{Bool}
 use mathlib.Core.List.{List, [], _∷_}
 use lib.Dec.{eqb}
-use lib.ListN.{length, getD}
+use Rattle.octets.specs.Plain.{Bytes, Array}
 use Rattle.ledger.specs.Limits.{headSize, recordSize}
 use Rattle.desk.specs.Answers.{done}
 use Rattle.desk.specs.Requests.{PushRequest, DecideRequest, TokenRequest, ResourceRequest}
@@ -27,15 +26,6 @@ pub data Call : Type 0 where
   sweep : ℕ → Call
 
 -- ---- what the types of a call's inputs say of them, and nothing else
-
--- bytes: &[u8]
-abbrev pub Bytes : List ℕ → Type 0
-Bytes xs = (i : ℕ) → getD xs i 0 < 256
-
--- n bytes: &[u8; n]
-pub record Array (n : ℕ) (xs : List ℕ) : Type 0 where
-  pub long : length xs ≡ n
-  pub bytes : Bytes xs
 
 pub record TypedPush (t : ℕ) (table : List ℕ) (p : PushRequest) : Type 0 where
   pub now : t < 2 ^ 64

@@ -11,7 +11,7 @@ use borrow.Author.Tests.{le-leb, leb-true}
 use Rattle.octets.proofs.Parts.{length-laid}
 use Rattle.frames.specs.Limits.{answerLine}
 use Rattle.frames.specs.Line.{lineEnd}
-use Rattle.lines.specs.Turn.{Held, held, turn, says, fits}
+use Rattle.lines.specs.Turn.{Held, turn, says}
 use Rattle.lines.specs.Feed.{Fed, fed, feedFrom, Left, leaves, feed, finish}
 use Rattle.lines.specs.Run.{puts, Passed, passed, passOn, passAll, session, joined}
 use Rattle.lines.proofs.Feeding.{Fit, to-fits, take-laid, says-most}

@@ -185,10 +185,6 @@ laid-all xs s e =
     let k : length xs ≤ length s = omega arith in
     rw (take-all (length s) xs k, drop-of-length-le s h) (append-nil xs)
 
--- laid over a part that is as long
-pub laid-part : (l : List ℕ) (a n : ℕ) (xs : List ℕ) → length xs ≡ n → a + n ≤ length l → laid xs (part l a n) ≡ xs
-laid-part l a n xs e h = laid-all xs (part l a n) (e ∙ sym (part-length l a n h))
-
 -- ---- loops that write from the front
 
 -- the first i elements are those of xs, the rest as they were

@@ -13,9 +13,6 @@ both false b e = absurd (false≢true e)
 pub and-l : (a b : Bool) → (a && b) ≡ true → a ≡ true
 and-l a b e = both a b e .0
 
-pub and-r : (a b : Bool) → (a && b) ≡ true → b ≡ true
-and-r a b e = both a b e .1
-
 pub both-true : (a b : Bool) → a ≡ true → b ≡ true → (a && b) ≡ true
 both-true a b e f = rw (e, f)
 

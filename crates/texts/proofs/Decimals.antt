@@ -3,9 +3,9 @@ use Prim.Native.Nat.{ℕ, zero, suc, _+_, _-_, _*_, _/_, _%_, _^_, _≤_, _<_}
 use native.Mathlib.Omega.{arith}
 use mathlib.Core.Path.{_≡_, refl, sym, ap, _∙_}
 use mathlib.Core.Logic.{⊎-elim}
-use mathlib.Core.Bool.{Bool, true, false, cond, _&&_}
+use mathlib.Core.Bool.{Bool, true}
 use mathlib.Core.List.{List, [], _∷_, _++_, append-assoc, append-nil}
-use lib.Dec.{ltb, leb}
+use lib.Dec.{leb}
 use lib.ListN.{length, getD, take, drop, set, length-append, length-drop, length-set, drop-of-length-le, List·getD-append}
 use lib.Seq.{take-suc, take-all, drop-cons, drop-set-lt, getD-set-same}
 use borrow.Author.Tests.{lt-ltb, le-ltb, le-leb, leb-true}
@@ -13,7 +13,7 @@ use Rattle.octets.specs.Lists.{every}
 use Rattle.octets.specs.Parts.{part, put}
 use Rattle.octets.proofs.Lists.{every-at}
 use Rattle.octets.proofs.Tests.{both, lt-or-le}
-use Rattle.texts.specs.Decimal.{isDecimal, valueFrom, value, Decimal, decimalIn, decimal, TheDigits, decimalMost}
+use Rattle.texts.specs.Decimal.{isDecimal, valueFrom, value, decimalIn, decimal, TheDigits, decimalMost}
 
 -- ---- one digit, or one more
 

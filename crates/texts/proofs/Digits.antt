@@ -6,7 +6,7 @@ use mathlib.Core.Bool.{Bool, true, false, _||_, and-false}
 use mathlib.Core.List.{List}
 use lib.Dec.{eqb, leb}
 use lib.ListN.{length, getD}
-use borrow.Author.Tests.{leb-true, le-leb, lt-leb, eqb-true, ne-eqb, eq-eqb}
+use borrow.Author.Tests.{leb-true, le-leb, lt-leb, ne-eqb, eq-eqb}
 use Rattle.octets.specs.Lists.{every}
 use Rattle.octets.proofs.Lists.{every-at}
 use Rattle.octets.proofs.Tests.{both}
@@ -84,11 +84,6 @@ module _ (c : ℕ) where
   pub digit-lower : 70 < c → digit c ≡ c - 87
   unfolding digit
   digit-lower h = let k : 57 < c = omega arith in rw (lt-leb c 57 k, lt-leb c 70 h)
-
--- a line of hexadecimal: its length and its characters
-pub hex-even : (l : List ℕ) → isHex l ≡ true → length l % 2 ≡ 0
-unfolding isHex
-hex-even l e = eqb-true (length l % 2) 0 (both (eqb (length l % 2) 0) (every isDigit l) e .0)
 
 pub hex-at : (l : List ℕ) (i : ℕ) → isHex l ≡ true → i < length l → isDigit (getD l i 0) ≡ true
 unfolding isHex

@@ -1,16 +1,15 @@
 -- Laws of hexadecimal: its lengths, its characters by index, and that reading undoes writing.
-use Prim.Native.Nat.{ℕ, zero, suc, _+_, _-_, _*_, _/_, _%_, _≤_, _<_}
+use Prim.Native.Nat.{ℕ, zero, suc, _+_, _*_, _/_, _%_, _≤_, _<_}
 use native.Mathlib.Omega.{arith}
-use mathlib.Core.Path.{_≡_, refl, sym, ap, ap₂, _∙_}
-use mathlib.Core.Bool.{Bool, true, false, _&&_, cond}
-use mathlib.Core.List.{List, [], _∷_, _++_}
-use lib.Dec.{eqb, ltb}
+use mathlib.Core.Path.{_≡_, refl, sym, ap, _∙_}
+use mathlib.Core.Bool.{true, false}
+use mathlib.Core.List.{List, [], _∷_}
 use lib.ListN.{length, getD}
-use borrow.Author.Tests.{lt-ltb, le-ltb, eq-eqb}
+use borrow.Author.Tests.{lt-ltb, le-ltb}
 use Rattle.octets.specs.Lists.{every}
 use Rattle.octets.specs.Parts.{laid}
 use Rattle.octets.proofs.Numbers.{Octets}
-use Rattle.octets.proofs.Tests.{both-true, lt-or-le}
+use Rattle.octets.proofs.Tests.{lt-or-le}
 use mathlib.Core.Logic.{⊎-elim}
 use Rattle.texts.specs.Hex.{isDigit, digit, isHex, decoded, decodedOver, glyph, hex, pairAt, glyphAt}
 use Rattle.texts.proofs.Digits.{at-digits, from-lower, digit-low, digit-lower, hex-of}

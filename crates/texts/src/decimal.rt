@@ -1,6 +1,6 @@
 // Decimal: the digits of a number, without leading zeros.
 ghost use mathlib.Core.Path.{_≡_};
-ghost use Prim.Native.Nat.{_+_, _≤_, _<_};
+ghost use Prim.Native.Nat.{_+_, _<_};
 ghost use lib.ListN.{length, drop};
 ghost use Rattle.octets.specs.Parts.{put};
 ghost use Rattle.texts.specs.Decimal.{decimal, decimalMost};

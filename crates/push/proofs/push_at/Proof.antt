@@ -4,11 +4,6 @@ use native.Mathlib.Omega.{arith}
 use borrow.Author.Needs.{needs}
 use Rattle.push.proofs.push_at.Statement.{statement}
 use Rattle.push.proofs.push_at.Tie as tie
-use Rattle.push.proofs.push_at.Reads as reads
-use Rattle.push.proofs.push_at.Lts as lts
-use Rattle.push.proofs.push_record.Reads as push-record-reads
-use Rattle.ledger.proofs.clock.set_clock.Reads as set-clock-reads
-use Rattle.ledger.proofs.clock.set_next.Reads as set-next-reads
 
 mul-a : tie.Need-mul-a
 mul-a c = omega (arith, slot-within _ _ (c .before .before .before .pre .0))

@@ -4,10 +4,6 @@ use native.Mathlib.Omega.{arith}
 use borrow.Author.Needs.{needs}
 use Rattle.token.proofs.token_at.Statement.{statement}
 use Rattle.token.proofs.token_at.Tie as tie
-use Rattle.token.proofs.token_at.Reads as reads
-use Rattle.token.proofs.token_at.Lts as lts
-use Rattle.token.proofs.token_record.Reads as token-record-reads
-use Rattle.ledger.proofs.clock.set_clock.Reads as set-clock-reads
 
 mul-a : tie.Need-mul-a
 mul-a c = omega (arith, slot-within _ _ (c .before .pre .0))

@@ -1,6 +1,5 @@
 use Rattle.texts.proofs.Hexes.{over-hex, over-other}
 use Rattle.texts.proofs.hex.decode.Statement.{statement}
-use Rattle.texts.specs.Hex.{isHex}
 use borrow.Author.Needs.{needs}
 use borrow.Author.Tests.{not-true, not-false}
 use mathlib.Core.Path.{sym, _∙_}
