@@ -104,9 +104,9 @@ def each_phase(rows, chance, rounds):
 
 @with_server
 def at_commit(rows, chance, rounds):
-    """The same at every commit, and at its answer."""
+    """The same at every commit and at its answer, or at every so many-th."""
     runs, doubts = faulty(rows, chance, rounds, ",commit,committed,")
-    assert doubts >= runs / 4, f"{doubts} of {runs} in doubt: too few to say that it was tried"
+    assert doubts > 0, "no commit was in doubt: it was not tried"
     return f"{runs} runs with {doubts} commits in doubt"
 
 
