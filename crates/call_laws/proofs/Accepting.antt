@@ -1,4 +1,4 @@
--- Each call answers 0 exactly when the conditions of specs/Accepted hold. Assumes nothing.
+-- Each call answers 0 exactly when the conditions of specs/Accepted hold.
 use Prim.Native.Nat.{ℕ}
 use mathlib.Core.Path.{_≡_, refl, sym, ap, _∙_}
 use mathlib.Core.Logic.{_↔_}
@@ -56,7 +56,7 @@ module _ (l : List ℕ) (t : ℕ) (table : List ℕ) (p : PushRequest) where
         ledger-sound = ledger-says l .0 (f .ledger-sound);
         in-time = time-says l t .0 (f .in-time);
         table-sound = table-says table .0 (f .table-sound);
-        asker = placeOf table (p .client);
+        clientPlace = placeOf table (p .client);
         known = known-is table (p .client) (p .key) (f .known);
         redirect-well = redirect-says (p .redirect) .0 a;
         challenge-well = challenge-says (p .challenge) .0 b;
@@ -69,7 +69,7 @@ module _ (l : List ℕ) (t : ℕ) (table : List ℕ) (p : PushRequest) where
 
   says-push : PushAccepted l t table p → PushFacts l t table p
   says-push w =
-      let (a, b) = is-known table (p .client) (p .key) (w .asker) (table-says table .1 (w .table-sound)) (w .known) in
+      let (a, b) = is-known table (p .client) (p .key) (w .clientPlace) (table-says table .1 (w .table-sound)) (w .known) in
       record {
         ledger-sound = ledger-says l .1 (w .ledger-sound);
         in-time = time-says l t .1 (w .in-time);
@@ -141,7 +141,7 @@ module _ (l : List ℕ) (t : ℕ) (table : List ℕ) (q : TokenRequest) where
         ledger-sound = ledger-says l .0 (f .ledger-sound);
         in-time = time-says l t .0 (f .in-time);
         table-sound = table-says table .0 (f .table-sound);
-        asker = placeOf table (q .client);
+        clientPlace = placeOf table (q .client);
         known = known-is table (q .client) (q .key) (f .known);
         key-presented = nonzero-says (q .presented) .0 (f .key-set);
         verifier-well = verifier-says (q .verifier) .0 (f .formed);
@@ -154,7 +154,7 @@ module _ (l : List ℕ) (t : ℕ) (table : List ℕ) (q : TokenRequest) where
 
   says-redeem : TokenAccepted l t table q → TokenFacts l t table q
   says-redeem w =
-      let (a, b) = is-known table (q .client) (q .key) (w .asker) (table-says table .1 (w .table-sound)) (w .known) in
+      let (a, b) = is-known table (q .client) (q .key) (w .clientPlace) (table-says table .1 (w .table-sound)) (w .known) in
       let (e, n) = code-stands l (q .code) (q .client) (w .k) (w .waits .inside) .1 (w .waits) in
       let at = place-named (isCode (q .code) (q .client)) l (w .k) (code-first l (ledger-says l .1 (w .ledger-sound)) (q .code) (q .client) (w .k) (w .waits .inside) e) in
       record {

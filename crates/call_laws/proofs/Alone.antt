@@ -1,4 +1,4 @@
--- What a refusal and what an accepted call leave alone, and that the clock becomes now. Assumes nothing.
+-- What a refusal and what an accepted call leave alone, and that the clock becomes now.
 use Prim.Native.Nat.{ℕ, _+_, _≤_, _<_, _^_}
 use native.Mathlib.Omega.{arith}
 use native.Mathlib.Nat.{le-refl}

@@ -1,4 +1,4 @@
--- What the checks that passed say, each under its name, for each call and both ways. Assumes nothing.
+-- What the checks that passed say, each under its name, for each call and both ways.
 use Prim.Native.Nat.{ℕ}
 use mathlib.Core.Path.{_≡_, ap}
 use mathlib.Core.Bool.{true, false, not, _&&_}

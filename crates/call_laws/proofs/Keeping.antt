@@ -1,4 +1,4 @@
--- Soundness is kept: from a sound ledger every call leaves a sound one, and start leaves one. So are bytes. Assumes nothing.
+-- Soundness is kept: from a sound ledger every call leaves a sound one, and start leaves one. So are bytes.
 use Prim.Native.Nat.{ℕ, _+_, _<_, _^_}
 use native.Mathlib.Omega.{arith}
 use mathlib.Core.Path.{_≡_, refl, ap, _∙_}

@@ -1,4 +1,4 @@
--- What the tests of the checks say in plain words, both ways: the parts of specs/Accepted. Assumes nothing.
+-- What the tests of the checks say in plain words, both ways: the parts of specs/Accepted.
 use Prim.Native.Nat.{ℕ, _<_}
 use native.Mathlib.Omega.{arith}
 use mathlib.Core.Path.{_≡_, sym, ap, _∙_}

@@ -1,4 +1,4 @@
--- What each call answers: by its list of checks in order, with a number of that list, and zeros beside it where it refuses. Assumes nothing.
+-- What each call answers: by its list of checks in order, with a number of that list, and zeros beside it where it refuses.
 use Prim.Native.Nat.{ℕ}
 use mathlib.Core.Path.{_≡_, refl, sym, ap, _∙_}
 use mathlib.Core.Logic.{⊎-elim, _↔_}

@@ -23,16 +23,16 @@ use Rattle.call_laws.specs.Conditions.{InTime, ScopeWithin, FreshValue, 
 abbrev pub StartAccepted : List ℕ → Type 0
 StartAccepted l = Sized l
 
--- "Push (client id, authentication key, scope, challenge, redirect, fresh value): 3, 4, 5, 6, 7, 8, 9": client `asker` of the table asks, and record `room` is the first free one
+-- "Push (client id, authentication key, scope, challenge, redirect, fresh value): 3, 4, 5, 6, 7, 8, 9": client `clientPlace` of the table asks, and record `room` is the first free one
 pub record PushAccepted (l : List ℕ) (t : ℕ) (table : List ℕ) (p : PushRequest) : Type 0 where
   pub ledger-sound : SoundLedger l
   pub in-time : InTime l t
   pub table-sound : SoundTable table
-  pub asker : ℕ
-  pub known : KnownAt table (p .client) (p .key) asker
+  pub clientPlace : ℕ
+  pub known : KnownAt table (p .client) (p .key) clientPlace
   pub redirect-well : RedirectWell (p .redirect)
   pub challenge-well : ChallengeWell (p .challenge)
-  pub scope-permitted : ScopeWithin (p .scope) (permitted (entry table asker))
+  pub scope-permitted : ScopeWithin (p .scope) (permitted (entry table clientPlace))
   pub fresh-new : FreshValue l (p .fresh)
   pub room : ℕ
   pub room-free : FirstFree l room
@@ -49,14 +49,14 @@ pub record DecideAccepted (l : List ℕ) (t : ℕ) (d : DecideRequest) (out : Li
   pub holder-given : d .holder ≢ 0
   pub fresh-new : d .yes ≡ true → FreshValue l (d .fresh)
 
--- "Token (client id, authentication key, presented key, code, verifier, fresh value): 3, 4, 13, 5, then 14 or 15, 11, 16, 7": client `asker` of the table asks, and
+-- "Token (client id, authentication key, presented key, code, verifier, fresh value): 3, 4, 13, 5, then 14 or 15, 11, 16, 7": client `clientPlace` of the table asks, and
 -- record k waits under this code, for this client
 pub record TokenAccepted (l : List ℕ) (t : ℕ) (table : List ℕ) (q : TokenRequest) : Type 0 where
   pub ledger-sound : SoundLedger l
   pub in-time : InTime l t
   pub table-sound : SoundTable table
-  pub asker : ℕ
-  pub known : KnownAt table (q .client) (q .key) asker
+  pub clientPlace : ℕ
+  pub known : KnownAt table (q .client) (q .key) clientPlace
   pub key-presented : NotZero (q .presented)
   pub verifier-well : VerifierWell (q .verifier)
   pub k : ℕ

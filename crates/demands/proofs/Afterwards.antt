@@ -1,4 +1,4 @@
--- What each accepted call leaves: the record, the other records, the head, the answer and the output. Assumes nothing.
+-- What each accepted call leaves: the record, the other records, the head, the answer and the output.
 use Prim.Native.Nat.{ℕ, _+_, _-_, _≤_, _<_}
 use native.Mathlib.Omega.{arith}
 use native.Mathlib.Nat.{le-refl}

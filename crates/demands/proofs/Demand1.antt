@@ -1,4 +1,4 @@
--- Demand 1 holds. Assumes nothing.
+-- Demand 1 holds.
 use Prim.Native.Nat.{ℕ}
 use mathlib.Core.Path.{_≡_, refl, sym, _∙_}
 use mathlib.Core.Logic.{_≢_, _⊎_, inl, inr, ⊎-elim}

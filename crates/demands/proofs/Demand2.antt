@@ -1,4 +1,4 @@
--- Demand 2 holds. Assumes nothing.
+-- Demand 2 holds.
 use mathlib.Core.Path.{_≡_}
 use mathlib.Core.Logic.{_↔_}
 use mathlib.Core.List.{List}

@@ -1,4 +1,4 @@
--- Each call's checks agree with its rows in plain words, so that a row's number is given exactly when its turn comes. Assumes nothing.
+-- Each call's checks agree with its rows in plain words, so that a row's number is given exactly when its turn comes.
 use Prim.Native.Nat.{ℕ, _≤_, _<_}
 use mathlib.Core.Path.{_≡_, refl, sym, ap, _∙_}
 use mathlib.Core.Logic.{_≢_, _⊎_, inl, inr, ⊎-elim, _↔_}

@@ -1,4 +1,4 @@
--- A list of checks and a list of rows in plain words give each row its turn alike, where each check says what its row does once those before it have passed. Assumes nothing.
+-- A list of checks and a list of rows in plain words give each row its turn alike, where each check says what its row does once those before it have passed.
 use Prim.Native.Nat.{ℕ}
 use mathlib.Core.Path.{_≡_, refl, sym, ap, _∙_}
 use mathlib.Core.Logic.{_⊎_, inl, inr, ⊎-elim, _↔_}

@@ -1,4 +1,4 @@
--- The bytes of a record after a push, a consent or a token, field by field. Assumes nothing.
+-- The bytes of a record after a push, a consent or a token, field by field.
 use Prim.Native.Nat.{ℕ, _+_, _-_, _≤_}
 use native.Mathlib.Omega.{arith}
 use mathlib.Core.Path.{_≡_, refl, sym, ap, _∙_}

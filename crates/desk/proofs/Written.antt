@@ -15,7 +15,7 @@ use Rattle.ledger.specs.Checks.{untimely, found}
 use Rattle.ledger.specs.Write.{pushed, consented, redeemed, free}
 use Rattle.ledger.specs.declared.find.Found.the-variants.{At}
 use Rattle.ledger.proofs.Records.{whole-part, length-records}
-use Rattle.ledger.proofs.Told.{found-told, found-place}
+use Rattle.ledger.proofs.Tests.{found-told, found-place}
 use Rattle.clients.specs.Fields.{permitted}
 use Rattle.ledger.specs.Sweep.{freed, swept}
 use Rattle.ledger.specs.declared.sweep.Freed.{Freed}

@@ -1,4 +1,4 @@
--- What the forms say of the length, of the beginning and of every byte, and what a check's answer says. Assumes nothing.
+-- What the forms say of the length, of the beginning and of every byte, and what a check's answer says.
 use Prim.Native.Nat.{ℕ, _<_, _≤_}
 use native.Mathlib.Omega.{arith}
 use mathlib.Core.Path.{_≡_, refl}

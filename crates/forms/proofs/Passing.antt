@@ -1,4 +1,4 @@
--- A loop that looks at every byte and keeps whether all passed so far. Assumes nothing.
+-- A loop that looks at every byte and keeps whether all passed so far.
 use Prim.Native.Nat.{ℕ, _+_, _<_, _≤_}
 use native.Mathlib.Numerals.{add-one}
 use native.Mathlib.Omega.{arith}

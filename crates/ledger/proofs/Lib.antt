@@ -3,5 +3,5 @@ pub mod Records
 pub mod States
 pub mod Loops
 pub mod Swept
-pub mod Told
+pub mod Tests
 pub mod Profile

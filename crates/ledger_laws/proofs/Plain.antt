@@ -1,4 +1,4 @@
--- A ledger is sound exactly when it is so in the plain words of specs/Sound. Assumes nothing.
+-- A ledger is sound exactly when it is so in the plain words of specs/Sound.
 use Prim.Native.Nat.{ℕ}
 use native.Mathlib.Omega.{arith}
 use mathlib.Core.Path.{_≡_, sym}

@@ -1,4 +1,4 @@
--- Laws of the digest (FIPS 180-4, section 6.2.2, the end). Assumes nothing.
+-- Laws of the digest (FIPS 180-4, section 6.2.2, the end).
 use Prim.Native.Nat.{ℕ, zero, suc, _+_, _-_, _*_, _/_, _%_, _^_, _≤_, _<_}
 use mathlib.Core.Path.{_≡_, refl, ap, sym, _∙_}
 use mathlib.Core.List.{List, [], _∷_, _++_}

@@ -1,4 +1,4 @@
--- The digits of a number, each by its place. Assumes nothing.
+-- The digits of a number, each by its place.
 use Prim.Native.Nat.{ℕ, zero, suc, _+_, _-_, _*_, _/_, _%_, _^_, _<_}
 use mathlib.Core.Path.{_≡_, refl, ap}
 use mathlib.Core.List.{[], _∷_, _++_}

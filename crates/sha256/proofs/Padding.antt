@@ -1,4 +1,4 @@
--- Laws of padding (FIPS 180-4, section 5.1.1). Assumes nothing.
+-- Laws of padding (FIPS 180-4, section 5.1.1).
 use Prim.Native.Nat.{ℕ, _+_, _-_, _*_, _/_, _%_, _^_, _≤_, _<_}
 use mathlib.Core.Path.{_≡_, ap, sym, _∙_}
 use mathlib.Core.List.{List, [], _∷_, _++_, append-assoc}

@@ -1,4 +1,4 @@
--- Laws of the message schedule (FIPS 180-4, section 6.2.2, step 1). Assumes nothing.
+-- Laws of the message schedule (FIPS 180-4, section 6.2.2, step 1).
 use Prim.Native.Nat.{ℕ, zero, suc, _+_, _-_, _*_, _≤_, _<_}
 use mathlib.Core.Path.{_≡_, refl, ap, sym, _∙_}
 use mathlib.Core.List.{List, [], _∷_, _++_}

@@ -1,6 +1,6 @@
 use Rattle.decide.proofs.check_fresh.Statement.{statement}
 use Rattle.desk.specs.Tests.{failsWhen}
-use Rattle.ledger.proofs.Told.{value-told}
+use Rattle.ledger.proofs.Tests.{value-told}
 use borrow.Author.Needs.{needs}
 use borrow.Author.Tests.{not-true, not-false}
 use mathlib.Core.Path.{sym, _∙_}

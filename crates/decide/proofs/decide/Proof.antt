@@ -9,7 +9,7 @@ use Rattle.desk.specs.Decide.{referencePlace, decideChecks, decideAt, decideLea
 use Rattle.desk.specs.Outcome.{Outcome, leftWith, concludes}
 use Rattle.desk.specs.Requests.{DecideRequest}
 use Rattle.desk.specs.declared.answer.Decided.{Decided}
-use Rattle.ledger.proofs.Told.{sound-told, time-told, life-told, found-told, found-place}
+use Rattle.ledger.proofs.Tests.{sound-told, time-told, life-told, found-told, found-place}
 use Rattle.ledger.specs.Checks.{untimely, isReference}
 use Rattle.ledger.specs.Fields.{rec, slots}
 use borrow.Author.Needs.{needs}

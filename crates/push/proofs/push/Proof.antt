@@ -12,7 +12,7 @@ use Rattle.desk.specs.Requests.{PushRequest}
 use Rattle.desk.specs.Tests.{failsWhen, scopeDecision}
 use Rattle.desk.specs.declared.answer.Answer.{Answer}
 use Rattle.desk.specs.declared.check.Bits.{Bits}
-use Rattle.ledger.proofs.Told.{sound-told, time-told, value-told, found-told, found-place}
+use Rattle.ledger.proofs.Tests.{sound-told, time-told, value-told, found-told, found-place}
 use Rattle.ledger.specs.Checks.{untimely, isFree}
 use Rattle.ledger.specs.Fields.{slots, nextNumber}
 use Rattle.ledger.specs.Limits.{lastNumber}

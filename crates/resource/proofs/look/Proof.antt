@@ -9,7 +9,7 @@ use Rattle.desk.specs.Tests.{failsWhen}
 use Rattle.desk.specs.declared.answer.Reading.{Reading}
 use Rattle.desk.specs.declared.answer.Reading.the-variants.{Granted, Refused}
 use Rattle.desk.specs.declared.check.Test.{Test}
-use Rattle.ledger.proofs.Told.{sound-told, time-told, life-told, found-told, found-place}
+use Rattle.ledger.proofs.Tests.{sound-told, time-told, life-told, found-told, found-place}
 use Rattle.ledger.specs.Checks.{untimely}
 use Rattle.ledger.specs.Fields.{rec, scope}
 use Rattle.resource.proofs.look.Statement.{statement}

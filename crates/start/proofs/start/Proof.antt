@@ -1,6 +1,6 @@
 use Rattle.start.proofs.Starting.{start-1, start-done}
 use Rattle.start.proofs.start.Statement.{statement}
-use Rattle.ledger.proofs.Told.{size-told}
+use Rattle.ledger.proofs.Tests.{size-told}
 use borrow.Author.Needs.{needs}
 use mathlib.Core.Path.{sym, _∙_}
 use Rattle.start.proofs.start.Tie as tie

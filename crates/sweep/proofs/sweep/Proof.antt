@@ -6,7 +6,7 @@ use Rattle.desk.specs.Checks.{Check, Verdict}
 use Rattle.desk.specs.Outcome.{Outcome, left, concludes}
 use Rattle.desk.specs.Sweep.{sweepChecks, sweepLeaves, sweep}
 use Rattle.desk.specs.declared.answer.Swept.{Swept}
-use Rattle.ledger.proofs.Told.{sound-told, time-told}
+use Rattle.ledger.proofs.Tests.{sound-told, time-told}
 use Rattle.ledger.specs.Checks.{untimely}
 use Rattle.ledger.specs.Fields.{withClock}
 use Rattle.ledger.specs.Sweep.{freed, swept}

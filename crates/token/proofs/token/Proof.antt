@@ -9,7 +9,7 @@ use Rattle.desk.specs.Requests.{TokenRequest}
 use Rattle.desk.specs.Token.{codePlace, tokenChecks, tokenAt, tokenLeaves, token}
 use Rattle.desk.specs.declared.answer.Answer.{Answer}
 use Rattle.forms.proofs.Laws.{verifier-well, verifier-ill}
-use Rattle.ledger.proofs.Told.{sound-told, time-told, value-told, life-told, found-told, found-place}
+use Rattle.ledger.proofs.Tests.{sound-told, time-told, value-told, life-told, found-told, found-place}
 use Rattle.ledger.specs.Checks.{untimely, isCode}
 use Rattle.ledger.specs.Fields.{rec, slots}
 use Rattle.s256.proofs.Rules.{matching-same, matching-differs}
