@@ -3,7 +3,7 @@
 mod desk;
 
 use std::sync::atomic::Ordering::SeqCst;
-use std::sync::{mpsc, Mutex};
+use std::sync::{Barrier, Mutex};
 use std::thread;
 use std::time::Duration;
 
@@ -18,16 +18,16 @@ const MEMO: Options = Options { journal: false, memo: true };
 fn the_clock_is_read_under_the_lock() {
     let room = Room::new("clock");
     let (keeper, clock) = room.started(1, PLAIN);
-    let (began, begun) = mpsc::channel();
+    let held = Barrier::new(2);
     thread::scope(|threads| {
         threads.spawn(|| {
             keeper.call(|_| {
-                began.send(()).unwrap();
+                held.wait();
                 thread::sleep(Duration::from_millis(100)); // the other one waits for the lock
                 clock.store(2000, SeqCst);
             })
         });
-        begun.recv().unwrap();
+        held.wait();
         assert_eq!(room.timed(&clock).call(|ledger| ledger.time()).unwrap(), 2000);
     });
 }
