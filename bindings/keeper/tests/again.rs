@@ -3,7 +3,9 @@
 mod desk;
 
 use std::sync::atomic::Ordering::SeqCst;
-use std::sync::Mutex;
+use std::sync::{Barrier, Mutex};
+use std::thread;
+use std::time::Duration;
 
 use desk::*;
 use perdigolh::*;
@@ -11,6 +13,24 @@ use perdigolh_keeper::{Decide, Options};
 
 const PLAIN: Options = Options { journal: false, memo: false };
 const MEMO: Options = Options { journal: false, memo: true };
+
+#[test]
+fn the_clock_is_read_under_the_lock() {
+    let room = Room::new("clock");
+    let (keeper, clock) = room.started(1, PLAIN);
+    let held = Barrier::new(2);
+    thread::scope(|threads| {
+        threads.spawn(|| {
+            keeper.call(|_| {
+                held.wait();
+                thread::sleep(Duration::from_millis(100)); // the other one waits for the lock
+                clock.store(2000, SeqCst);
+            })
+        });
+        held.wait();
+        assert_eq!(room.timed(&clock).call(|ledger| ledger.time()).unwrap(), 2000);
+    });
+}
 
 #[test]
 fn a_full_ledger_is_swept_once() {
