@@ -1,5 +1,5 @@
 -- What is written once a call's record is found, as the code lends it.
-use Prim.Native.Nat.{ℕ, _+_, _*_, _-_, _≤_, _<_, _^_}
+use Prim.Native.Nat.{ℕ, _+_, _*_, _-_, _%_, _≤_, _<_, _^_}
 use native.Mathlib.Nat.{add-sub-cancel-left}
 use native.Mathlib.Omega.{arith}
 use mathlib.Core.Path.{_≡_, refl, sym, ap, _∙_}
@@ -13,12 +13,12 @@ use Rattle.ledger.specs.Sound.{sized, sound}
 use Rattle.octets.specs.Lists.{place}
 use Rattle.octets.specs.Parts.{part, splice}
 use Rattle.octets.proofs.Lists.{place-lt}
-use Rattle.ledger.specs.Limits.{codeLifetime, tokenLifetime, lastNumber}
-use Rattle.ledger.specs.Fields.{rec, slots, records, clock, nextNumber, grant, redirectLength, withRecord, withNext, withClock}
+use Rattle.ledger.specs.Limits.{recordSize, codeLifetime, tokenLifetime, lastNumber}
+use Rattle.ledger.specs.Fields.{address, rec, slots, records, clock, nextNumber, grant, redirectLength, withRecord, withNext, withClock}
 use Rattle.ledger.specs.Checks.{untimely, found, isFree}
 use Rattle.ledger.specs.Write.{pushed, consented, redeemed, free}
 use Rattle.ledger.specs.declared.find.Found.the-variants.{At}
-use Rattle.ledger.proofs.Records.{whole-part, length-records}
+use Rattle.ledger.proofs.Records.{whole-part, length-records, lent-out, lent-back as restored}
 use Rattle.ledger.proofs.Told.{found-told, found-place}
 use Rattle.clients.specs.Fields.{permitted}
 use Rattle.ledger.specs.Sweep.{freed, swept}
@@ -98,12 +98,25 @@ module _ (l : List ℕ) (t k : ℕ) (inside : k < slots l) where
       let e2 : z ≡ withClock t (withRecord l k free) = hz ∙ ap (withClock t) (lent-back l k x free hx) in
       rw (hd, e2, ha, hn, ho, lent-is)
 
-  pub token-written : (until : ℕ) (new key x z : List ℕ) (a : Answer)
-      → x ≡ redeemed until new key lent → a ≡ answerOf x
-      → z ≡ withClock t (splice l start (start + 256 - start) x) → left a z ≡ rewritten l t k (redeemed until new key (rec l k))
-  token-written until new key x z a hx ha hz =
-      let e1 : x ≡ redeemed until new key (rec l k) = hx ∙ rw lent-is in
-      let e2 : z ≡ withClock t (withRecord l k x) = hz ∙ ap (withClock t) (lent-back l k x x refl) in
+module _ (l : List ℕ) (t k a : ℕ) (inside : k < slots l) (short : length l < 2 ^ 63) (computed : a ≡ address k % 2 ^ 64) where
+  abbrev record-lent : List ℕ
+  record-lent = part l a (a + recordSize - a)
+
+  abbrev given-back : List ℕ → List ℕ
+  given-back r = splice l a (a + recordSize - a) r
+
+  lent-rec : record-lent ≡ rec l k
+  lent-rec = lent-out l k a inside short computed
+
+  back-with : (r : List ℕ) → given-back r ≡ withRecord l k r
+  back-with = restored l k a inside short computed
+
+  pub token-written : (until : ℕ) (new key x z : List ℕ) (answer : Answer)
+      → x ≡ redeemed until new key record-lent → answer ≡ answerOf x
+      → z ≡ withClock t (given-back x) → left answer z ≡ rewritten l t k (redeemed until new key (rec l k))
+  token-written until new key x z answer hx ha hz =
+      let e1 : x ≡ redeemed until new key (rec l k) = hx ∙ rw lent-rec in
+      let e2 : z ≡ withClock t (withRecord l k x) = hz ∙ ap (withClock t) (back-with x) in
       rw (e2, ha, e1)
 
 -- what is written at the place found is what the definition says
