@@ -68,15 +68,6 @@ module _ (l : List ℕ) (t k : ℕ) (inside : k < slots l) where
   pub lent-is : lent ≡ rec l k
   lent-is = whole-part l k inside .0
 
-  pub push-written : (bits number until : ℕ) (id text new target x y z : List ℕ) (a : Answer)
-      → x ≡ pushed bits number until id text new target lent → a ≡ answerOf x
-      → y ≡ withNext (number + 1) (splice l start (start + 256 - start) x) → z ≡ withClock t y
-      → left a z ≡ entered l t k number (pushed bits number until id text new target (rec l k))
-  push-written bits number until id text new target x y z a hx ha hy hz =
-      let e1 : x ≡ pushed bits number until id text new target (rec l k) = hx ∙ rw lent-is in
-      let e2 : y ≡ withNext (number + 1) (withRecord l k x) = hy ∙ ap (withNext (number + 1)) (lent-back l k x x refl) in
-      rw (hz, e2, ha, e1)
-
   pub consent-written : (who : ℕ) (fresh out x z o : List ℕ) (n : ℕ) (a : Answer) (d : Decided)
       → n ≡ redirectLength lent → o ≡ handedOut lent out
       → x ≡ consented (t + codeLifetime) who fresh lent → a ≡ answerOf x
@@ -110,6 +101,15 @@ module _ (l : List ℕ) (t k a : ℕ) (inside : k < slots l) (short : length l <
 
   back-with : (r : List ℕ) → given-back r ≡ withRecord l k r
   back-with = restored l k a inside short computed
+
+  pub push-written : (bits number until : ℕ) (id text new target x y z : List ℕ) (answer : Answer)
+      → x ≡ pushed bits number until id text new target record-lent → answer ≡ answerOf x
+      → y ≡ withNext (number + 1) (given-back x) → z ≡ withClock t y
+      → left answer z ≡ entered l t k number (pushed bits number until id text new target (rec l k))
+  push-written bits number until id text new target x y z answer hx ha hy hz =
+      let e1 : x ≡ pushed bits number until id text new target (rec l k) = hx ∙ rw lent-rec in
+      let e2 : y ≡ withNext (number + 1) (withRecord l k x) = hy ∙ ap (withNext (number + 1)) (back-with x) in
+      rw (hz, e2, ha, e1)
 
   pub token-written : (until : ℕ) (new key x z : List ℕ) (answer : Answer)
       → x ≡ redeemed until new key record-lent → answer ≡ answerOf x
