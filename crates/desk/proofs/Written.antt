@@ -1,14 +1,12 @@
 -- What is written once a call's record is found, as the code lends it.
-use Prim.Native.Nat.{ℕ, _+_, _-_, _%_, _≤_, _<_, _^_}
+use Prim.Native.Nat.{ℕ, _+_, _-_, _%_, _<_, _^_}
 use native.Mathlib.Omega.{arith}
 use mathlib.Core.Path.{_≡_, sym, ap, _∙_}
 use mathlib.Core.Bool.{Bool, true, false, _||_, cond}
 use mathlib.Core.List.{List}
-use lib.Dec.{eqb, ltb, leb}
-use borrow.Author.Tests.{leb-true, leb-false, eqb-false}
+use lib.Dec.{eqb, ltb}
+use borrow.Author.Tests.{leb-false, eqb-false}
 use lib.ListN.{length}
-use Rattle.octets.proofs.Tests.{and-l, and-r}
-use Rattle.ledger.specs.Sound.{sized, sound}
 use Rattle.octets.specs.Parts.{part, splice}
 use Rattle.octets.proofs.Lists.{place-lt}
 use Rattle.ledger.specs.Limits.{recordSize, codeLifetime, tokenLifetime, lastNumber}
@@ -140,14 +138,6 @@ sweep-written l t y z f a hf hy hz ha = rw (ha, hz, hy, hf)
 
 pub refuses : {A : Type 0} {a b : A} {l out : List ℕ} {o : Outcome A} → a ≡ b → o ≡ leftWith b l out → leftWith a l out ≡ o
 refuses e f = rw e (sym f)
-
--- a sound ledger is short
-pub sound-short : (l : List ℕ) → sound l ≡ true → length l ≤ 51232
-unfolding sound sized
-sound-short l e =
-    let a = and-l _ _ e in
-    let b = and-r (leb 288 (length l)) _ a in
-    leb-true (length l) 51232 (and-l (leb (length l) 51232) _ b)
 
 -- a next number that passed check 9 is below the last
 pub below-last : (m n : ℕ) → eqb m lastNumber ≡ false → n ≡ m → n < 2 ^ 64 → n < lastNumber
