@@ -18,20 +18,19 @@ use desk::answer::Decided;
 use desk::answer::Refusal;
 use desk::check;
 use desk::check::Test;
-use forms::Redirect;
 use ledger::clock::Timing;
 use ledger::clock::set_clock;
-use ledger::field::Field;
 use ledger::find::Found;
 use ledger::limit::Code;
 use ledger::limit::Ledger;
 use ledger::pool::Value;
 use ledger::record::Life;
+use ledger::record::address;
 use ledger::record::check_life;
+use ledger::record::redirect_field;
 use ledger::record::redirect_length;
 use ledger::sound::Soundness;
 use octets::part::clear;
-use octets::part::cut;
 use octets::part::put;
 
 // Writes a consent into its record, and answers what the record then has.
@@ -56,7 +55,7 @@ fn decline_record(r: &mut [u8], holder: u64) -> Answer
 fn hand_out(out: &mut [u8], r: &[u8])
     ensures { λ _. ⌜ now (out .exit) ≡ handedOut (now (r .entry)) (now (out .entry)) ⌝ }
 {
-    put(out, 0, cut(r, Field::REDIRECT, Redirect::MOST));
+    put(out, 0, redirect_field(r));
 }
 
 // The fresh value is looked at on yes alone.
@@ -84,7 +83,7 @@ fn consent_at(
     requires { ⌜ (k < slots (now ledger)) × (time < clockLimit) ⌝ }
     ensures { λ r. ⌜ leftWith r (now (ledger .exit)) (now (out .exit)) ≡ consentAt (now (ledger .entry)) time holder (now (fresh .entry)) (now (out .entry)) k ⌝ }
 {
-    let a = Ledger::HEAD + k * Ledger::RECORD;
+    let a = address(k);
     let length = redirect_length(&ledger[a..a + Ledger::RECORD]);
     hand_out(out, &ledger[a..a + Ledger::RECORD]);
     let answer = consent_record(
@@ -102,7 +101,7 @@ fn decline_at(ledger: &mut [u8], k: usize, time: u64, holder: u64, out: &mut [u8
     requires { ⌜ k < slots (now ledger) ⌝ }
     ensures { λ r. ⌜ leftWith r (now (ledger .exit)) (now (out .exit)) ≡ declineAt (now (ledger .entry)) time holder (now (out .entry)) k ⌝ }
 {
-    let a = Ledger::HEAD + k * Ledger::RECORD;
+    let a = address(k);
     let length = redirect_length(&ledger[a..a + Ledger::RECORD]);
     hand_out(out, &ledger[a..a + Ledger::RECORD]);
     let answer = decline_record(&mut ledger[a..a + Ledger::RECORD], holder);

@@ -1,20 +1,20 @@
 -- What is written once a call's record is found, as the code lends it.
-use Prim.Native.Nat.{ℕ, _+_, _*_, _-_, _<_, _^_}
-use native.Mathlib.Nat.{add-sub-cancel-left}
+use Prim.Native.Nat.{ℕ, _+_, _-_, _%_, _<_, _^_}
 use native.Mathlib.Omega.{arith}
-use mathlib.Core.Path.{_≡_, refl, sym, ap, _∙_}
+use mathlib.Core.Path.{_≡_, sym, ap, _∙_}
 use mathlib.Core.Bool.{Bool, true, false, _||_, cond}
 use mathlib.Core.List.{List}
 use lib.Dec.{eqb, ltb}
 use borrow.Author.Tests.{leb-false, eqb-false}
+use lib.ListN.{length}
 use Rattle.octets.specs.Parts.{part, splice}
 use Rattle.octets.proofs.Lists.{place-lt}
-use Rattle.ledger.specs.Limits.{codeLifetime, tokenLifetime, lastNumber}
-use Rattle.ledger.specs.Fields.{rec, slots, records, clock, nextNumber, grant, redirectLength, withRecord, withNext, withClock}
+use Rattle.ledger.specs.Limits.{recordSize, codeLifetime, tokenLifetime, lastNumber}
+use Rattle.ledger.specs.Fields.{address, rec, slots, records, clock, nextNumber, grant, redirectLength, withRecord, withNext, withClock}
 use Rattle.ledger.specs.Checks.{untimely, found}
 use Rattle.ledger.specs.Write.{pushed, consented, redeemed, free}
 use Rattle.ledger.specs.declared.find.Found.the-variants.{At}
-use Rattle.ledger.proofs.Records.{whole-part, length-records}
+use Rattle.ledger.proofs.Records.{length-records, lent-out, lent-back}
 use Rattle.ledger.proofs.Tests.{found-told, found-place}
 use Rattle.clients.specs.Fields.{permitted}
 use Rattle.ledger.specs.Sweep.{freed, swept}
@@ -28,10 +28,6 @@ use Rattle.desk.specs.Token.{codePlace, tokenRecord, rewritten, tokenAt}
 use Rattle.desk.specs.declared.answer.Answer.{Answer}
 use Rattle.desk.specs.declared.answer.Decided.{Decided}
 use Rattle.desk.specs.declared.answer.Swept.{Swept}
-
--- a record that comes back from its loan
-pub lent-back : (l : List ℕ) (k : ℕ) (x y : List ℕ) → x ≡ y → splice l (32 + k * 256) (32 + k * 256 + 256 - (32 + k * 256)) x ≡ withRecord l k y
-lent-back l k x y e = let c = add-sub-cancel-left (32 + k * 256) 256 in rw (c, e)
 
 -- what is found is a place in the ledger
 pub found-inside : (q : List ℕ → Bool) (l : List ℕ) (k : ℕ) → found q l ≡ At k → k < slots l
@@ -54,52 +50,55 @@ timely-lt l t e = leb-false (2 ^ 40) t (or-right (ltb t (clock l)) _ e)
 
 -- ---- a call's record written, then the head: what the definition says
 
-module _ (l : List ℕ) (t k : ℕ) (inside : k < slots l) where
-  abbrev start : ℕ
-  start = 32 + k * 256
-
+module _ (l : List ℕ) (t k a : ℕ) (inside : k < slots l) (short : length l < 2 ^ 63) (computed : a ≡ address k % 2 ^ 64) where
   abbrev lent : List ℕ
-  lent = part l start (start + 256 - start)
+  lent = part l a (a + recordSize - a)
 
-  pub lent-is : lent ≡ rec l k
-  lent-is = whole-part l k inside .0
+  abbrev back : List ℕ → List ℕ
+  back r = splice l a (a + recordSize - a) r
 
-  pub push-written : (bits number until : ℕ) (id text new target x y z : List ℕ) (a : Answer)
-      → x ≡ pushed bits number until id text new target lent → a ≡ answerOf x
-      → y ≡ withNext (number + 1) (splice l start (start + 256 - start) x) → z ≡ withClock t y
-      → left a z ≡ entered l t k number (pushed bits number until id text new target (rec l k))
-  push-written bits number until id text new target x y z a hx ha hy hz =
+  lent-is : lent ≡ rec l k
+  lent-is = lent-out l k a inside short computed
+
+  back-is : (r : List ℕ) → back r ≡ withRecord l k r
+  back-is = lent-back l k a inside short computed
+
+  pub push-written : (bits number until : ℕ) (id text new target x y z : List ℕ) (answer : Answer)
+      → x ≡ pushed bits number until id text new target lent → answer ≡ answerOf x
+      → y ≡ withNext (number + 1) (back x) → z ≡ withClock t y
+      → left answer z ≡ entered l t k number (pushed bits number until id text new target (rec l k))
+  push-written bits number until id text new target x y z answer hx ha hy hz =
       let e1 : x ≡ pushed bits number until id text new target (rec l k) = hx ∙ rw lent-is in
-      let e2 : y ≡ withNext (number + 1) (withRecord l k x) = hy ∙ ap (withNext (number + 1)) (lent-back l k x x refl) in
+      let e2 : y ≡ withNext (number + 1) (withRecord l k x) = hy ∙ ap (withNext (number + 1)) (back-is x) in
       rw (hz, e2, ha, e1)
 
-  pub consent-written : (who : ℕ) (fresh out x z o : List ℕ) (n : ℕ) (a : Answer) (d : Decided)
+  pub consent-written : (who : ℕ) (fresh out x z o : List ℕ) (n : ℕ) (answer : Answer) (d : Decided)
       → n ≡ redirectLength lent → o ≡ handedOut lent out
-      → x ≡ consented (t + codeLifetime) who fresh lent → a ≡ answerOf x
-      → z ≡ withClock t (splice l start (start + 256 - start) x) → d ≡ decided a n
+      → x ≡ consented (t + codeLifetime) who fresh lent → answer ≡ answerOf x
+      → z ≡ withClock t (back x) → d ≡ decided answer n
       → leftWith d z o ≡ consentAt l t who fresh out k
   unfolding consentAt consentRecord
-  consent-written who fresh out x z o n a d hn ho hx ha hz hd =
+  consent-written who fresh out x z o n answer d hn ho hx ha hz hd =
       let e1 : x ≡ consented (t + codeLifetime) who fresh (rec l k) = hx ∙ rw lent-is in
-      let e2 : z ≡ withClock t (withRecord l k x) = hz ∙ ap (withClock t) (lent-back l k x x refl) in
+      let e2 : z ≡ withClock t (withRecord l k x) = hz ∙ ap (withClock t) (back-is x) in
       rw (hd, e2, ha, hn, ho, e1, lent-is)
 
-  pub decline-written : (who : ℕ) (out x z o : List ℕ) (n : ℕ) (a : Answer) (d : Decided)
+  pub decline-written : (who : ℕ) (out x z o : List ℕ) (n : ℕ) (answer : Answer) (d : Decided)
       → n ≡ redirectLength lent → o ≡ handedOut lent out
-      → x ≡ free → a ≡ answerNo (grant lent) who
-      → z ≡ withClock t (splice l start (start + 256 - start) x) → d ≡ decided a n
+      → x ≡ free → answer ≡ answerNo (grant lent) who
+      → z ≡ withClock t (back x) → d ≡ decided answer n
       → leftWith d z o ≡ declineAt l t who out k
   unfolding declineAt
-  decline-written who out x z o n a d hn ho hx ha hz hd =
-      let e2 : z ≡ withClock t (withRecord l k free) = hz ∙ ap (withClock t) (lent-back l k x free hx) in
+  decline-written who out x z o n answer d hn ho hx ha hz hd =
+      let e2 : z ≡ withClock t (withRecord l k free) = hz ∙ ap (withClock t) (back-is x ∙ rw hx) in
       rw (hd, e2, ha, hn, ho, lent-is)
 
-  pub token-written : (until : ℕ) (new key x z : List ℕ) (a : Answer)
-      → x ≡ redeemed until new key lent → a ≡ answerOf x
-      → z ≡ withClock t (splice l start (start + 256 - start) x) → left a z ≡ rewritten l t k (redeemed until new key (rec l k))
-  token-written until new key x z a hx ha hz =
+  pub token-written : (until : ℕ) (new key x z : List ℕ) (answer : Answer)
+      → x ≡ redeemed until new key lent → answer ≡ answerOf x
+      → z ≡ withClock t (back x) → left answer z ≡ rewritten l t k (redeemed until new key (rec l k))
+  token-written until new key x z answer hx ha hz =
       let e1 : x ≡ redeemed until new key (rec l k) = hx ∙ rw lent-is in
-      let e2 : z ≡ withClock t (withRecord l k x) = hz ∙ ap (withClock t) (lent-back l k x x refl) in
+      let e2 : z ≡ withClock t (withRecord l k x) = hz ∙ ap (withClock t) (back-is x) in
       rw (e2, ha, e1)
 
 -- what is written at the place found is what the definition says

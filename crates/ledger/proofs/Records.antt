@@ -3,7 +3,7 @@ use Prim.Native.Nat.{ℕ, _+_, _-_, _%_, _^_, _≤_, _<_}
 use native.Mathlib.Nat.{add-sub-cancel-left}
 use native.Mathlib.Omega.{arith}
 use native.Mathlib.Decide.{ℕ-discrete, decLt}
-use mathlib.Core.Path.{_≡_, refl, sym, _∙_}
+use mathlib.Core.Path.{_≡_, sym, _∙_}
 use mathlib.Core.Logic.{_≢_}
 use mathlib.Core.List.{List, []}
 use lib.ListN.{length, getD, set, length-set, drop-of-length-le}
@@ -92,10 +92,3 @@ module _ (l : List ℕ) (k a : ℕ) (inside : k < slots l) (short : length l < 2
 
   pub lent-back : (r : List ℕ) → splice l a (a + recordSize - a) r ≡ withRecord l k r
   lent-back r = rw (address-is, add-sub-cancel-left (address k) recordSize)
-
--- a record as a call lends it that computes the address itself
-pub whole-part : (l : List ℕ) (k : ℕ) → k < slots l
-    → (part l (address k) (address k + recordSize - address k) ≡ rec l k)
-    × (length (part l (address k) (address k + recordSize - address k)) ≡ recordSize)
-unfolding rec
-whole-part l k h = let e = add-sub-cancel-left (address k) recordSize in rw e (refl, rec-length l k h)

@@ -25,6 +25,7 @@ use ledger::find::Found;
 use ledger::limit::Ledger;
 use ledger::limit::Reference;
 use ledger::pool::Value;
+use ledger::record::address;
 use ledger::sound::Soundness;
 
 // The seconds that a reference lives, by the client's record: the same for all.
@@ -67,7 +68,7 @@ fn push_at(
     requires { ⌜ (k < slots (now ledger)) × (number < lastNumber) ⌝ }
     ensures { λ a. ⌜ left a (now (ledger .exit)) ≡ entered (now (ledger .entry)) time k number (pushed scope number expiry (now (client .entry)) (now (challenge .entry)) (now (fresh .entry)) (now (redirect .entry)) (rec (now (ledger .entry)) k)) ⌝ }
 {
-    let a = Ledger::HEAD + k * Ledger::RECORD;
+    let a = address(k);
     let answer = push_record(
         &mut ledger[a..a + Ledger::RECORD],
         scope,

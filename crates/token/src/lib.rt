@@ -15,28 +15,26 @@ use desk::answer::Answer;
 use desk::answer::Refusal;
 use desk::check;
 use desk::check::Test;
-use forms::Challenge;
 use forms::Form;
 use forms::Verifier;
 use ledger::clock::Timing;
 use ledger::clock::set_clock;
-use ledger::field::Field;
 use ledger::find::Found;
 use ledger::limit::Ledger;
 use ledger::limit::Token;
 use ledger::pool::Value;
 use ledger::record::Life;
+use ledger::record::address;
 use ledger::record::at;
 use ledger::record::check_life;
 use ledger::sound::Soundness;
-use octets::part::cut;
 use s256::Match;
 
 // Check 16, of the record found.
 fn check_verifier(r: &[u8], verifier: &[u8]) -> Match
     ensures { λ m. ⌜ m ≡ matching (now (verifier .entry)) (challenge (now (r .entry))) ⌝ }
 {
-    let matched = s256::matches(verifier, cut(r, Field::CHALLENGE, Challenge::LENGTH));
+    let matched = s256::matches(verifier, ledger::record::challenge(r));
     matched
 }
 
@@ -53,7 +51,7 @@ fn token_at(ledger: &mut [u8], k: usize, time: u64, fresh: &[u8; 32], key: &[u8;
     requires { ⌜ (k < slots (now ledger)) × (time < clockLimit) ⌝ }
     ensures { λ a. ⌜ left a (now (ledger .exit)) ≡ rewritten (now (ledger .entry)) time k (redeemed (time + tokenLifetime) (now (fresh .entry)) (now (key .entry)) (rec (now (ledger .entry)) k)) ⌝ }
 {
-    let a = Ledger::HEAD + k * Ledger::RECORD;
+    let a = address(k);
     let answer = token_record(
         &mut ledger[a..a + Ledger::RECORD],
         time + Token::LIFETIME,

@@ -1,52 +1,54 @@
 use Rattle.desk.proofs.Written.{consent-written}
 use Rattle.decide.proofs.consent_at.Statement.{statement}
-use Rattle.ledger.proofs.Records.{slot-within}
+use Rattle.ledger.proofs.Records.{lent-within}
+use Rattle.ledger.specs.Limits.{recordSize}
+use Prim.Native.Nat.{_+_, _≤_}
+use lib.ListN.{length}
 use borrow.Author.Needs.{needs}
 use native.Mathlib.Omega.{arith}
 use Rattle.decide.proofs.consent_at.Tie as tie
 
-mul-a : tie.Need-mul-a
-mul-a c = omega (arith, slot-within _ _ (c .before .before .pre .0))
+abbrev start : tie.After-address → tie.Start
+start b = b .before .before .before
 
-add-a : tie.Need-add-a
-add-a c = omega (arith, slot-within _ _ (c .before .before .pre .0))
+-- record k is within the ledger, where its address is told
+within : (b : tie.After-address) → b .address .result + recordSize ≤ length (start b .args .ledger .now)
+within b =
+    let s = start b in
+    lent-within (s .args .ledger .now) (s .args .k) (b .address .result) (s .pre .0) (omega arith) (b .address .ensures)
 
 add-redirect-length : tie.Need-add-redirect-length
-add-redirect-length c = omega (arith, slot-within _ _ (c .before .before .pre .0))
+add-redirect-length c = omega (arith, within c)
 
 part-redirect-length-end : tie.Need-part-redirect-length-end
-part-redirect-length-end c = omega (arith, slot-within _ _ (c .before .before .before .pre .0))
+part-redirect-length-end c = within (c .before)
 
 add-hand-out : tie.Need-add-hand-out
-add-hand-out c = omega (arith, slot-within _ _ (c .before .before .before .before .before .before .pre .0))
+add-hand-out c = omega (arith, within (c .before .before .before .before))
 
 part-hand-out-end : tie.Need-part-hand-out-end
-part-hand-out-end c = omega (arith, slot-within _ _ (c .before .before .before .before .before .before .before .pre .0))
+part-hand-out-end c = within (c .before .before .before .before .before)
 
 add-consent-record : tie.Need-add-consent-record
-add-consent-record c =
-    let c11 = c .before .before .before .before .before .before .before .before .before .before .before in
-    omega (arith, slot-within _ _ (c11 .pre .0))
+add-consent-record c = omega (arith, within (c .before .before .before .before .before .before .before .before .before))
 
 part-consent-record-end : tie.Need-part-consent-record-end
-part-consent-record-end c =
-    let c11 = c .before .before .before .before .before .before .before .before .before .before .before in
-    omega (arith, slot-within _ _ (c11 .pre .0))
+part-consent-record-end c = within (c .before .before .before .before .before .before .before .before .before)
 
 returns : tie.Need-returns
 returns c =
-    let c7 = c .before .before .before .before .before .before .before in
-    let c11 = c7 .before .before .before .before in
-    let c15 = c11 .before .before .before .before in
-    let c20 = c15 .before .before .before .before .before in
-    consent-written (c20 .args .ledger .now) (c20 .args .time) (c20 .args .k) (c20 .pre .0) (c20 .args .holder) (c20 .args .fresh .now) (c20 .args .out .now) _ _ _ _ _ _ ((c15 .redirect-length) .ensures) ((c11 .hand-out) .ensures) ((c7 .consent-record) .ensures .0) ((c7 .consent-record) .ensures .1) ((c .before .before .before .set-clock) .ensures) ((c .with) .ensures)
+    let r = c .before .before .before .before .before .before .before in
+    let h = r .before .before .before .before in
+    let n = h .before .before .before .before in
+    let b = n .before .before .before in
+    let s = start b in
+    consent-written (s .args .ledger .now) (s .args .time) (s .args .k) (b .address .result) (s .pre .0) (omega arith) (b .address .ensures) (s .args .holder) (s .args .fresh .now) (s .args .out .now) _ _ _ _ _ _ (n .redirect-length .ensures) (h .hand-out .ensures) (r .consent-record .ensures .0) (r .consent-record .ensures .1) (c .before .before .before .set-clock .ensures) (c .with .ensures)
 
 pub consent-at-spec : {M : Type 1} → statement M
 consent-at-spec =
     tie.close
     (tie.spec
-    mul-a
-    add-a
+    (λ c κs. search needs)
     add-redirect-length
     (search needs)
     (search needs)
