@@ -1,4 +1,4 @@
--- Laws of a chunk that is passed on, call after call. Assumes nothing.
+-- Laws of a chunk that is passed on, call after call.
 use Prim.Native.Nat.{ℕ, zero, suc, _+_, _-_, _≤_, _<_}
 use native.Mathlib.Omega.{arith}
 use mathlib.Core.Path.{_≡_, refl, sym, ap, _∙_}

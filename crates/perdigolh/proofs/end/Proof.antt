@@ -5,8 +5,8 @@ use mathlib.Core.Path.{sym}
 use native.Mathlib.Omega.{arith}
 use Rattle.perdigolh.proofs.end.Tie as tie
 
-slice-aggregate-write-all : tie.Need-slice-aggregate-write-all
-slice-aggregate-write-all c = sym (length-take-le _ _ (omega arith))
+slice-aggregate-hand : tie.Need-slice-aggregate-hand
+slice-aggregate-hand c = sym (length-take-le _ _ (omega arith))
 
 pub end-spec : {M : Type 1} → statement M
 end-spec =
@@ -14,10 +14,10 @@ end-spec =
     (tie.spec
     (search needs)
     (search needs)
-    slice-aggregate-write-all
+    slice-aggregate-hand
     (search needs)
     (search needs)
     (search needs)
     (search needs)
     (search needs)
-    (search needs))
+    (λ c. search needs))

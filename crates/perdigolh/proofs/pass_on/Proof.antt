@@ -1,14 +1,13 @@
-use Prim.Native.Nat.{_≤_}
+use Prim.Native.Nat.{_-_, _≤_}
 use Rattle.lines.specs.Run.{passOn}
 use Rattle.lines.specs.Turn.{held}
 use Rattle.perdigolh.proofs.Passing.{Going, going-on, going-end, going-out}
 use Rattle.perdigolh.proofs.pass_on.Statement.{statement}
 use borrow.Author.Needs.{needs}
 use borrow.Author.Tests.{ltb-true, ltb-false}
-use lib.ListN.{drop, length}
-use lib.Seq.{length-take-le}
+use lib.ListN.{drop, length, length-drop, length-take}
 use mathlib.Core.Bool.{false≢true}
-use mathlib.Core.Path.{_≡_, refl, sym}
+use mathlib.Core.Path.{_≡_, refl}
 use native.Mathlib.Omega.{arith}
 use Rattle.perdigolh.proofs.pass_on.Tie as tie
 
@@ -18,19 +17,24 @@ Inv-loop chunk line₀ ledger₀ table₀ out₀ state₀ at₀ turns₀ line le
 abbrev μ-loop : tie.MeasureT-loop
 μ-loop chunk line₀ ledger₀ table₀ out₀ state₀ at₀ turns₀ line ledger table out state at turns = turns
 
-slice-aggregate-write-all : tie.Need-slice-aggregate-write-all Inv-loop μ-loop
-slice-aggregate-write-all c = sym (length-take-le _ _ (omega arith))
-
 loop-holds : tie.Need-loop-holds Inv-loop μ-loop
 loop-holds c = (search needs, refl, refl, refl, refl, record { held = refl; out′ = refl })
 
 returns : tie.Need-returns Inv-loop μ-loop
-returns c = λ e. absurd (false≢true e)
+returns c = (λ e. absurd (false≢true e), search needs)
+
+add-at : tie.Need-add-at Inv-loop μ-loop
+add-at c =
+    let passed = c .before .before .before .before .before .before .before .before .before .before .before .before in
+    let p = passed .before .before .before .before .before .before .before .before in
+    let l = p .loop in
+    let chunk = p .before .before .before .before .before .before .args .chunk .now in
+    omega (arith, passed .pass .ensures .1, length-take (length chunk - l .at) (drop (l .at) chunk), length-drop (l .at) chunk)
 
 loop-again : tie.Need-loop-again Inv-loop μ-loop
 loop-again c =
-    let fed = c .before .before .before .before .before .before .before .before .before .before .before .before .before in
-    let test = fed .before .before .before .before .before .before in
+    let passed = c .before .before .before .before .before .before .before .before .before .before .before .before in
+    let test = passed .before .before .before .before .before .before in
     let p = test .before .before in
     let l = p .loop in (
       search needs,
@@ -39,18 +43,18 @@ loop-again c =
       search needs,
       search needs,
       going-on _ (held (l .state) (l .line) (l .ledger) (l .table)) (l .out) (p .before .before .before .before .before .before .args .chunk .now) (l .at) (l .turns) (omega arith)
-          (ltb-true _ _ (test .if1 .taken)) (l .inv .5) (fed .feed .ensures .0),
+          (ltb-true _ _ (test .if1 .taken)) (l .inv .5) (passed .pass .ensures .0),
     )
 
 returns-2 : tie.Need-returns-2 Inv-loop μ-loop
 returns-2 c =
     let l = c .before .before .loop in
-    λ e. going-end _ (held (l .state) (l .line) (l .ledger) (l .table)) (l .out) (c .before .before .before .before .before .before .before .before .args .chunk .now) (l .at) (l .turns) (ltb-false _ _ (c .if1 .left)) (l .inv .5)
+    (λ e. going-end _ (held (l .state) (l .line) (l .ledger) (l .table)) (l .out) (c .before .before .before .before .before .before .before .before .args .chunk .now) (l .at) (l .turns) (ltb-false _ _ (c .if1 .left)) (l .inv .5), search needs)
 
 returns-3 : tie.Need-returns-3 Inv-loop μ-loop
 returns-3 c =
     let l = c .before .loop in
-    λ e. going-out _ (held (l .state) (l .line) (l .ledger) (l .table)) (l .out) (c .before .before .before .before .before .before .before .args .chunk .now) (l .at) (l .turns) (omega arith) (l .inv .5)
+    (λ e. going-out _ (held (l .state) (l .line) (l .ledger) (l .table)) (l .out) (c .before .before .before .before .before .before .before .args .chunk .now) (l .at) (l .turns) (omega arith) (l .inv .5), search needs)
 
 pub pass-on-spec : {M : Type 1} → statement M
 pass-on-spec =
@@ -64,14 +68,11 @@ pass-on-spec =
     (search needs)
     (search needs)
     (search needs)
-    slice-aggregate-write-all
-    (search needs)
-    (search needs)
     (search needs)
     (search needs)
     (search needs)
     returns
-    (search needs)
+    add-at
     (search needs)
     (search needs)
     loop-again
