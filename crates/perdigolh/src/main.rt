@@ -15,8 +15,15 @@ use libc::STDOUT_FILENO;
 use lines::feed::State;
 use lines::feed::feed;
 use lines::feed::finish;
+use std::num::wrapping_add_usize;
 
-// What a call of lines leaves: the lengths in use, how much of the chunk it took, and how many bytes of the output's front were handed to `hand`.
+// What was handed to be written: how many bytes, and whether all of them were written.
+struct Handed {
+    count: usize,
+    is_written: bool,
+}
+
+// What a call of lines leaves: the lengths in use, how much of the chunk it took, and how many bytes of the output's front were handed on.
 struct Passed {
     state: State,
     taken: usize,
@@ -24,21 +31,27 @@ struct Passed {
     is_written: bool,
 }
 
-// What a step leaves: the lengths in use, how many bytes were read, whether there may be more, and whether the input has come to its end. A step after which
-// there is neither failed.
+// What a step leaves: the lengths in use, how many bytes were read and how many handed on, modulo 2^64, whether there may be more, and whether the input has
+// come to its end. A step after which there is neither failed.
 struct Step {
     state: State,
     got: usize,
+    handed: usize,
     more: bool,
     ended: bool,
 }
 
-fn hand(bytes: &[u8]) -> bool {
-    if io::write_all(STDOUT_FILENO, bytes) {
-        return true;
+fn hand(bytes: &[u8]) -> Handed
+    ensures { λ r. ⌜ r .count ≡ length (now (bytes .entry)) ⌝ }
+{
+    let is_written = io::write_all(STDOUT_FILENO, bytes);
+    if !is_written {
+        os::fail(b"perdigolh: standard output");
     }
-    os::fail(b"perdigolh: standard output");
-    false
+    Handed {
+        count: bytes.len(),
+        is_written: is_written,
+    }
 }
 
 // What is left of a chunk, once: `handed` bytes of the output's front are what the definition puts out, and they are handed on.
@@ -51,17 +64,17 @@ fn pass(
     out: &mut [u8],
 ) -> Passed
     ensures { λ r. ⌜ left (held (r .state) (now (line .exit)) (now (ledger .exit)) (now (table .exit))) (r .taken) (r .handed) (now (out .exit)) ≡ feed (held s (now (line .entry)) (now (ledger .entry)) (now (table .entry))) (now (chunk .entry)) (now (out .entry)) ⌝ }
-    ensures { λ r. ⌜ r .taken ≤ length (now (chunk .entry)) ⌝ }
+    ensures { λ r. ⌜ (r .taken ≤ length (now (chunk .entry))) × (r .handed ≤ length (now (out .exit))) ⌝ }
 {
     let fed = feed(chunk, s, line, ledger, table, out);
     let filled = fed.filled;
-    let is_written = hand(&out[..filled]);
+    let handed = hand(&out[..filled]);
     let state = fed.state;
     Passed {
         state: state,
         taken: fed.taken,
-        handed: filled,
-        is_written: is_written,
+        handed: handed.count,
+        is_written: handed.is_written,
     }
 }
 
@@ -74,20 +87,23 @@ fn pass_on(
     table: &mut [u8],
     out: &mut [u8],
 ) -> Step
-    ensures { λ r. ⌜ LeavesAs (passOn (length (now (chunk .entry))) (held s (now (line .entry)) (now (ledger .entry)) (now (table .entry))) (now (out .entry)) (now (chunk .entry))) (r .more) (held (r .state) (now (line .exit)) (now (ledger .exit)) (now (table .exit))) (now (out .exit)) ⌝ }
+    ensures { λ r. ⌜ LeavesAs (passOn (length (now (chunk .entry))) (held s (now (line .entry)) (now (ledger .entry)) (now (table .entry))) (now (out .entry)) (now (chunk .entry))) (r .more) (held (r .state) (now (line .exit)) (now (ledger .exit)) (now (table .exit))) (now (out .exit)) (r .handed) ⌝ }
     ensures { λ r. ⌜ (r .got ≡ length (now (chunk .entry))) × (r .ended ≡ false) ⌝ }
 {
     let mut state = s;
     let mut at = 0;
     let mut turns = chunk.len();
+    let mut handed = 0;
     while turns > 0 && at < chunk.len() {
         let passed = pass(&chunk[at..], state, line, ledger, table, out);
         let left = passed.state;
         state = left;
+        handed = wrapping_add_usize(handed, passed.handed);
         if !passed.is_written {
             return Step {
                 state: state,
                 got: chunk.len(),
+                handed: handed,
                 more: false,
                 ended: false,
             };
@@ -98,6 +114,7 @@ fn pass_on(
     Step {
         state: state,
         got: chunk.len(),
+        handed: handed,
         more: true,
         ended: false,
     }
@@ -106,27 +123,29 @@ fn pass_on(
 // The end of the input: a line that is begun is answered, and the answer handed on.
 fn end(s: State, line: &mut [u8], ledger: &mut [u8], table: &mut [u8], out: &mut [u8]) -> Passed
     ensures { λ r. ⌜ left (held (r .state) (now (line .exit)) (now (ledger .exit)) (now (table .exit))) (r .taken) (r .handed) (now (out .exit)) ≡ finish (held s (now (line .entry)) (now (ledger .entry)) (now (table .entry))) (now (out .entry)) ⌝ }
+    ensures { λ r. ⌜ r .handed ≤ length (now (out .exit)) ⌝ }
 {
     let fed = finish(s, line, ledger, table, out);
     let filled = fed.filled;
-    let is_written = hand(&out[..filled]);
+    let last = hand(&out[..filled]);
     let state = fed.state;
     Passed {
         state: state,
         taken: fed.taken,
-        handed: filled,
-        is_written: is_written,
+        handed: last.count,
+        is_written: last.is_written,
     }
 }
 
 // A read that failed: one that a signal interrupted has read nothing, and is tried again.
 fn failed(s: State) -> Step
-    ensures { λ r. ⌜ (r .state ≡ s) × ((r .got ≡ 0) × (r .ended ≡ false)) ⌝ }
+    ensures { λ r. ⌜ (r .state ≡ s) × ((r .got ≡ 0) × ((r .handed ≡ 0) × (r .ended ≡ false))) ⌝ }
 {
     if os::errno() == libc::EINTR {
         return Step {
             state: s,
             got: 0,
+            handed: 0,
             more: true,
             ended: false,
         };
@@ -135,6 +154,7 @@ fn failed(s: State) -> Step
     Step {
         state: s,
         got: 0,
+        handed: 0,
         more: false,
         ended: false,
     }
@@ -149,8 +169,8 @@ fn serve_some(
     table: &mut [u8],
     out: &mut [u8],
 ) -> Step
-    ensures { λ r. ⌜ LeavesAs (passOn (length (take (r .got) (now (input .exit)))) (held s (now (line .entry)) (now (ledger .entry)) (now (table .entry))) (now (out .entry)) (take (r .got) (now (input .exit)))) (r .more) (held (r .state) (now (line .exit)) (now (ledger .exit)) (now (table .exit))) (now (out .exit)) ⌝ }
-    ensures { λ r. ⌜ EndsAs (finish (held s (now (line .entry)) (now (ledger .entry)) (now (table .entry))) (now (out .entry))) (r .ended) (held (r .state) (now (line .exit)) (now (ledger .exit)) (now (table .exit))) (now (out .exit)) ⌝ }
+    ensures { λ r. ⌜ LeavesAs (passOn (length (take (r .got) (now (input .exit)))) (held s (now (line .entry)) (now (ledger .entry)) (now (table .entry))) (now (out .entry)) (take (r .got) (now (input .exit)))) (r .more) (held (r .state) (now (line .exit)) (now (ledger .exit)) (now (table .exit))) (now (out .exit)) (r .handed) ⌝ }
+    ensures { λ r. ⌜ EndsAs (finish (held s (now (line .entry)) (now (ledger .entry)) (now (table .entry))) (now (out .entry))) (r .ended) (held (r .state) (now (line .exit)) (now (ledger .exit)) (now (table .exit))) (now (out .exit)) (r .handed) ⌝ }
 {
     let got = libc::read(STDIN_FILENO, input);
     if got < 0 {
@@ -162,6 +182,7 @@ fn serve_some(
         return Step {
             state: state,
             got: 0,
+            handed: last.handed,
             more: false,
             ended: last.is_written,
         };
@@ -179,18 +200,21 @@ fn run(
     table: &mut [u8],
     out: &mut [u8],
 ) -> Step
-    ensures { λ r. ⌜ RunsAs (held (lengths 0 0 0) (now (line .entry)) (now (ledger .entry)) (now (table .entry))) (now (out .entry)) (r .ended) (held (r .state) (now (line .exit)) (now (ledger .exit)) (now (table .exit))) (now (out .exit)) ⌝ }
+    ensures { λ r. ⌜ RunsAs (held (lengths 0 0 0) (now (line .entry)) (now (ledger .entry)) (now (table .entry))) (now (out .entry)) (r .ended) (held (r .state) (now (line .exit)) (now (ledger .exit)) (now (table .exit))) (now (out .exit)) (r .handed) ⌝ }
 {
     let mut state = State::new();
     let mut turns = usize::MAX;
+    let mut handed = 0;
     while turns > 0 {
         let step = serve_some(state, input, line, ledger, table, out);
         let left = step.state;
         state = left;
+        handed = wrapping_add_usize(handed, step.handed);
         if !step.more {
             return Step {
                 state: state,
                 got: 0,
+                handed: handed,
                 more: false,
                 ended: step.ended,
             };
@@ -200,6 +224,7 @@ fn run(
     Step {
         state: state,
         got: 0,
+        handed: handed,
         more: true,
         ended: false,
     }

@@ -10,14 +10,14 @@ returns c =
     let r = c .before .before .before .before .read in
     let b = c .before .before .before .before .before .before .before .before .before .before .before in
     let a = b .args in (
-      read-none (a .s) (a .line .now) (a .ledger .now) (a .table .now) (a .out .now) (r .last .1 .0) (c .failed .result .more) (c .failed .ensures .1 .0) (c .failed .ensures .0),
-      not-ended (c .failed .ensures .1 .1),
+      read-none (a .s) (a .line .now) (a .ledger .now) (a .table .now) (a .out .now) (r .last .1 .0) (c .failed .result .more) (c .failed .ensures .1 .0) (c .failed .ensures .0) (c .failed .ensures .1 .1 .0),
+      not-ended (c .failed .ensures .1 .1 .1),
     )
 
 returns-2 : tie.Need-returns-2
 returns-2 c =
     let e = c .before .before .before .before .before .before .before .before .before .end in
-    (λ t. absurd (false≢true t), ends _ (e .result .«is_written») (e .ensures))
+    (λ t. absurd (false≢true t), ends _ (e .result .«is_written») (e .ensures .0) (e .ensures .1))
 
 returns-3 : tie.Need-returns-3
 returns-3 c =
