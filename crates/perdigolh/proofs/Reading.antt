@@ -8,7 +8,9 @@ use lib.ListN.{length, take, length-append}
 use lib.Seq.{length-take-le}
 use Rattle.lines.specs.Turn.{Held, held, lengths}
 use Rattle.lines.specs.Feed.{Left, left, finish}
-use Rattle.lines.specs.Run.{Passed, puts, passOn, passAll, session}
+use Rattle.lines.specs.Lines.{run}
+use Rattle.lines.specs.Run.{Passed, puts, passOn, passAll, session, joined, Buffers}
+use Rattle.lines.proofs.Whole.{whole-run}
 use Rattle.lines.specs.declared.feed.State.{State}
 use Rattle.perdigolh.specs.Chunk.{LeavesAs, EndsAs, RunsAs}
 
@@ -107,3 +109,8 @@ module _ (first : Held) (out₀ : List ℕ) (h : Held) (out : List ℕ) (handed 
 -- the turns are used up
 pub runs-out : (first : Held) (out₀ : List ℕ) (h : Held) (out : List ℕ) (handed : ℕ) → RunsAs first out₀ false h out handed
 runs-out first out₀ h out handed = record { chunks = []; leaves = λ t. absurd (false≢true t) }
+
+-- in buffers of the right sizes, as many bytes were handed on as the run of the lines that were read has
+pub as-many : (line ledger table out : List ℕ) → Buffers line ledger table out → {h : Held} {o : List ℕ} {handed : ℕ}
+    → (r : RunsAs (held (lengths 0 0 0) line ledger table) out true h o handed) → handed ≡ length (run (joined (r .chunks))) % 2 ^ 64
+as-many line ledger table out b r = r .leaves refl .2 ∙ ap (λ (x : List ℕ). length x % 2 ^ 64) (whole-run line ledger table out (r .chunks) b)
