@@ -1,8 +1,10 @@
 #!/usr/bin/env python3
 """Feeds a line program the same stream through a pipe in small pieces, and waits for each answer: tests/runs/pipes.py PROGRAM
 
-However the input is cut, the output is the one of the whole file; and an answer comes before more input is sent. A failed read or write ends it.
+However the input is cut, the output is the one of the whole file; and an answer comes before more input is sent. A failed read or write ends it, and standard
+error says which of the two failed and why.
 """
+import errno
 import fcntl
 import os
 import select
@@ -65,16 +67,29 @@ def answer_by_answer(program, lines, expected):
             process.wait(PATIENCE)
 
 
-def ends(program, **streams):
-    """Whether it ends by itself, though its input stays open."""
-    with subprocess.Popen(program, bufsize=0, **streams) as process:
+def told(program, closed=None, **streams):
+    """What it says on standard error, and None where it does not end by itself, though its input stays open."""
+    close = None if closed is None else lambda: os.close(closed)
+    with subprocess.Popen(program, bufsize=0, stderr=subprocess.PIPE, preexec_fn=close, **streams) as process:
         if process.stdin:
             os.write(process.stdin.fileno(), b"\n")
         try:
-            return process.wait(PATIENCE) is not None
+            process.wait(PATIENCE)
         except subprocess.TimeoutExpired:
             process.kill()
-            return False
+            return None
+        return process.stderr.read()
+
+
+def failure(stream, error):
+    """What is to be said of a stream at an error: the system's own words for it."""
+    return f"perdigolh: standard {stream}: {os.strerror(error)}\n".encode()
+
+
+def idle():
+    """A pipe that is open, empty and non-blocking."""
+    end, _ = os.pipe2(os.O_NONBLOCK)
+    return end
 
 
 def read_line(pipe):
@@ -108,11 +123,15 @@ def main():
             check(f"stream {index} in pieces of {size}", in_pieces(program, text, size) == expected)
         check(f"stream {index}, answer by answer", answer_by_answer(program, lines, answers))
     check("no input, no answer", in_pieces(program, b"", 1) == b"")
+    check("a whole run says nothing on standard error", told(program, stdin=subprocess.DEVNULL, stdout=subprocess.DEVNULL) == b"")
     with open("/dev/full", "wb") as full:
-        check("a failed write ends it", ends(program, stdin=subprocess.PIPE, stdout=full))
+        check("a full output", told(program, stdin=subprocess.PIPE, stdout=full) == failure("output", errno.ENOSPC))
+    check("a closed output", told(program, closed=1, stdin=subprocess.PIPE) == failure("output", errno.EBADF))
     folder = os.open("/", os.O_RDONLY)
-    check("a failed read ends it", ends(program, stdin=folder, stdout=subprocess.DEVNULL))
+    check("a directory as input", told(program, stdin=folder, stdout=subprocess.DEVNULL) == failure("input", errno.EISDIR))
     os.close(folder)
+    check("a closed input", told(program, closed=0, stdout=subprocess.DEVNULL) == failure("input", errno.EBADF))
+    check("an input that does not wait", told(program, stdin=idle(), stdout=subprocess.DEVNULL) == failure("input", errno.EAGAIN))
     print(f"{sum(results)} passed, {len(results) - sum(results)} failed")
     return 0 if all(results) else 1
 

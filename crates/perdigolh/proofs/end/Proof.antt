@@ -1,3 +1,6 @@
+use Prim.Native.Nat.{_≤_}
+use Rattle.perdigolh.proofs.Passing.{fronted}
+use lib.ListN.{length}
 use Rattle.perdigolh.proofs.end.Statement.{statement}
 use borrow.Author.Needs.{needs}
 use lib.Seq.{length-take-le}
@@ -5,8 +8,15 @@ use mathlib.Core.Path.{sym}
 use native.Mathlib.Omega.{arith}
 use Rattle.perdigolh.proofs.end.Tie as tie
 
-slice-aggregate-write-all : tie.Need-slice-aggregate-write-all
-slice-aggregate-write-all c = sym (length-take-le _ _ (omega arith))
+slice-aggregate-hand : tie.Need-slice-aggregate-hand
+slice-aggregate-hand c = sym (length-take-le _ _ (omega arith))
+
+returns : tie.Need-returns
+returns c =
+    let f = c .before .before .before .before .before .before .before .before .before .before .before .finish in
+    let k : f .result .filled ≤ length (f .last .1 .1 .1 .1 .0) = omega arith in
+    let w = fronted _ (f .result .filled) (f .last .1 .1 .1 .1 .0) k (f .ensures .0) (c .before .hand .ensures) in
+    (w .0, w .1)
 
 pub end-spec : {M : Type 1} → statement M
 end-spec =
@@ -14,10 +24,10 @@ end-spec =
     (tie.spec
     (search needs)
     (search needs)
-    slice-aggregate-write-all
+    slice-aggregate-hand
     (search needs)
     (search needs)
     (search needs)
     (search needs)
     (search needs)
-    (search needs))
+    returns)
