@@ -8,9 +8,6 @@ use mathlib.Core.Path.{sym}
 use native.Mathlib.Omega.{arith}
 use Rattle.perdigolh.proofs.pass.Tie as tie
 
-slice-aggregate-hand : tie.Need-slice-aggregate-hand
-slice-aggregate-hand c = sym (length-take-le _ _ (omega arith))
-
 returns : tie.Need-returns
 returns c =
     let f = c .before .before .before .before .before .before .before .before .before .before .before .feed in
@@ -24,7 +21,7 @@ pass-spec =
     (tie.spec
     (search needs)
     (search needs)
-    slice-aggregate-hand
+    (λ c. sym (length-take-le _ _ (omega arith)))
     (search needs)
     (search needs)
     (search needs)
