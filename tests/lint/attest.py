@@ -24,10 +24,12 @@ FILES = {
     **{f"crates/desk/proofs/Demand{n}.antt": f"pub demand{n} : Demand{n}\ndemand{n} = ..\n" for n in (1, 2, 3)},
     "crates/desk/must-fail/wrong.edit": "",
     "target/log/desk.say": "logic=proved functions=3 " + WORDS,
-    "target/log/program.say": "axioms libc: libc::read (1 of the 50 declared)\nlogic=proved functions=1 axioms=1 target=x " + WORDS,
+    "target/log/program.say": "axioms libc: libc::read (1 of the 50 declared)\naxioms os: os::c::told (1 of the 10 declared)\n"
+                              "logic=proved functions=1 axioms=2 target=x " + WORDS,
     "target/gate.txt": f"date 2026-01-01T00:00:00Z\ncommit {COMMIT}\nkit {KIT}\nseconds 9\ntally 7 passed, 0 failed\n",
     "target/gate.log": "rt: must-fail desk/wrong: refused, as it must be (3 s)\n",
     "kit/libs/libc/src/lib.rt": 'extern "C" {\n    // reads\n    pub fn read(fd: i32) -> isize\n        ensures { λ r. ⌜ Moved r ⌝ };\n}\n',
+    "kit/libs/os/src/c.rt": 'extern "C" {\n    // tells\n    pub fn told() -> i32;\n}\n',
     "kit/libs/libc/specs/Io.antt": "-- what it may answer\nabbrev pub Moved : ℤ → Type 0\nMoved k = k ≡ 0\n",
 }
 SPOILT = [
@@ -42,8 +44,9 @@ SPOILT = [
     ("a crate more", "crates.txt", "desk:", "other:\ndesk:"),
     ("a word that trusts more", "target/log/desk.say", "libraries-built", "cache=trusted libraries-built"),
     ("another native", "target/log/desk.say", "nat,char", "nat,float,char"),
-    ("an axiom that is not named", "target/log/program.say", "axioms=1", "axioms=2"),
+    ("an axiom that is not named", "target/log/program.say", "axioms=2", "axioms=3"),
     ("an axiom with no text", "kit/libs/libc/src/lib.rt", "pub fn read", "pub fn reads"),
+    ("an axiom of a module with no text", "kit/libs/os/src/c.rt", "pub fn told", "pub fn tells"),
     ("a demand that is gone", "crates/desk/specs/Demands.antt", "record Demand2", "record Demand4"),
     ("a demand with no proof", "crates/desk/proofs/Demand3.antt", "pub demand3", "pub demand4"),
     ("an edit that was not refused", "target/gate.log", "refused, as it must be", "NOT REFUSED"),
