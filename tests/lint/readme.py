@@ -24,6 +24,7 @@ MADE = [
     (r"target/bin/(\w+)", "crates/{}/src/main.rt"),
     (r"target/staticlib/lib(\w+)\.a", "crates/{}/src/lib.rt"),
     (r"target/front/release/(\w+)", "tests/front/src/bin/{}.rs"),
+    (r"target/keeper/release/(\w+)", "bindings/keeper/src/bin/{}.rs"),
 ]
 
 spoilt = {}  # the self-test's pages
