@@ -1,0 +1,2 @@
+-- Laws of the text: one more name of a scope, lengths, and that two different descriptions never give one text.
+pub mod Names

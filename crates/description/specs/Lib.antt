@@ -1,0 +1,4 @@
+-- The text that describes a live token.
+pub mod Literal
+pub mod Scope
+pub mod Description
