@@ -69,3 +69,6 @@ then {l} {m} {n} {xs} {ys} {a} {b} {c} p q =
 
 pub laid-as : {l xs m : List ℕ} {a b : ℕ} → Laid l a xs m b → (b ≡ a + length xs) × (m ≡ put l a xs)
 laid-as v = (v .behind, v .bytes)
+
+pub at-front : {l xs m : List ℕ} {b : ℕ} → Laid l 0 xs m b → (b ≡ length xs) × (m ≡ put l 0 xs)
+at-front v = let e = v .behind in (omega arith, v .bytes)

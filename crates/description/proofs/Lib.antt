@@ -2,3 +2,4 @@
 pub mod Behind
 pub mod Names
 pub mod Lengths
+pub mod Writings
