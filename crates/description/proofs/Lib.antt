@@ -5,3 +5,4 @@ pub mod Bits
 pub mod Lengths
 pub mod Writings
 pub mod Apart
+pub mod Example

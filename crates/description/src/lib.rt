@@ -6,6 +6,7 @@ ghost use lib.Dec.{leb};
 ghost use lib.ListN.{length};
 ghost use Rattle.octets.specs.Parts.{put};
 ghost use Rattle.description.specs.Description.{described, liveText, inactiveText};
+ghost use Rattle.description.specs.Apart.{liveMost, widestMost};
 ghost use Rattle.description.specs.Writing.{written, writtenOver};
 use octets::part::put;
 
@@ -15,6 +16,28 @@ mod scope;
 pub enum Written {
     Length(usize),
     Short,
+}
+
+pub struct Description {}
+
+impl Description {
+    // The longest text of a sound record; most and widest say the same numbers as the definitions.
+    pub const MOST: usize = 304;
+
+    // The longest of any values of the fields' widths.
+    pub const WIDEST: usize = 311;
+
+    pub fn most() -> usize
+        ensures { λ r. ⌜ r ≡ liveMost ⌝ }
+    {
+        Description::MOST
+    }
+
+    pub fn widest() -> usize
+        ensures { λ r. ⌜ r ≡ widestMost ⌝ }
+    {
+        Description::WIDEST
+    }
 }
 
 // The live text over the front of the output, as far as there is room; answers how long it is.
