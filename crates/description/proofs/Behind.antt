@@ -1,7 +1,7 @@
 -- Texts that are laid over an output one behind the other are laid as one text.
 use Prim.Native.Nat.{ℕ, zero, suc, _+_}
 use native.Mathlib.Omega.{arith}
-use mathlib.Core.Path.{_≡_, refl, sym, ap, _∙_}
+use mathlib.Core.Path.{_≡_, refl, ap, _∙_}
 use mathlib.Core.List.{List, [], _∷_, _++_}
 use lib.ListN.{length, length-append}
 use Rattle.octets.specs.Parts.{laid, put}
@@ -9,10 +9,6 @@ use Rattle.octets.proofs.Parts.{put-end}
 
 put-nil : (a : ℕ) (xs : List ℕ) → put [] a xs ≡ []
 put-nil a xs = put-end [] a xs (omega arith)
-
-laid-front : (l xs : List ℕ) → put l 0 xs ≡ laid xs l
-unfolding put
-laid-front l xs = refl
 
 laid-none : (l : List ℕ) → laid [] l ≡ l
 unfolding laid

@@ -1,7 +1,7 @@
 -- How long a live text is, member by member, and at most.
-use Prim.Native.Nat.{ℕ, _+_, _*_, _/_, _^_, _≤_, _<_}
+use Prim.Native.Nat.{ℕ, _+_, _*_, _/_, _≤_, _<_}
 use native.Mathlib.Omega.{arith}
-use mathlib.Core.Path.{_≡_, refl, sym, ap, _∙_}
+use mathlib.Core.Path.{_≡_}
 use mathlib.Core.List.{List, [], _∷_, _++_, append-assoc}
 use lib.ListN.{length, length-append}
 use Rattle.texts.specs.Hex.{hex}
@@ -11,7 +11,7 @@ use Rattle.texts.proofs.Hexes.{length-hex}
 use Rattle.texts.proofs.Decimals.{length-decimal, most-in}
 use Rattle.texts.proofs.Letters.{length-base64url}
 use Rattle.description.specs.Literal.{bytes}
-use Rattle.description.specs.Scope.{scopeNames, scopeMost}
+use Rattle.description.specs.Scope.{scopeNames}
 use Rattle.description.specs.Description.{Description, clientMember, subMember, expMember, scopeMember, cnfMember, liveText}
 use Rattle.description.specs.Apart.{Fielded, mostWith, expiryDigits, Longest}
 use Rattle.description.proofs.Names.{length-names}
@@ -84,5 +84,5 @@ pub longest : Longest
 longest = record {
   scope = length-names;
   widest = λ d f. by-digits d decimalMost f (length-decimal (d .expiry) (f .expiry));
-  sound = λ d f h. by-digits d expiryDigits f (most-in 12 (d .expiry) (omega arith));
+  sound = λ d f h. by-digits d expiryDigits f (most-in 12 (d .expiry) h);
 }

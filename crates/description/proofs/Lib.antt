@@ -6,3 +6,4 @@ pub mod Lengths
 pub mod Writings
 pub mod Apart
 pub mod Example
+pub mod Reached

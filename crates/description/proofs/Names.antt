@@ -6,13 +6,11 @@ use mathlib.Core.Logic.{⊎-elim}
 use mathlib.Core.Path.{_≡_, refl, sym, ap, _∙_}
 use mathlib.Core.Bool.{Bool, true, false, cond}
 use mathlib.Core.List.{List, [], _∷_, _++_, map, append-assoc, append-nil}
-use lib.Dec.{eqb}
 use lib.ListN.{length, length-append}
 use borrow.Author.Tests.{eq-eqb, ne-eqb}
 use Rattle.octets.proofs.Parts.{length-put}
 use Rattle.octets.proofs.Tests.{lt-or-le}
 use Rattle.octets.specs.Parts.{put}
-use Rattle.texts.specs.Decimal.{decimal}
 use Rattle.texts.proofs.Decimals.{length-decimal, most-in}
 use Rattle.description.proofs.Behind.{put-append, put-none}
 use Rattle.description.specs.Scope.{scopeWidth, scopeName, isSet, bitsBelow, spaced, oneMore, added, namesBelow, scopeNames, scopeMost}

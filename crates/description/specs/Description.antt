@@ -1,6 +1,6 @@
 -- What a live token is described by, and the text of it (document 02, Q-1).
 use Prim.Native.Nat.{ℕ}
-use mathlib.Core.List.{List, [], _∷_, _++_}
+use mathlib.Core.List.{List, _++_}
 use Rattle.texts.specs.Hex.{hex}
 use Rattle.texts.specs.Decimal.{decimal}
 use Rattle.texts.specs.Base64url.{base64url}

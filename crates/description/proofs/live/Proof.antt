@@ -1,11 +1,11 @@
 use Prim.Native.Nat.{_+_, _*_, _≤_, _<_}
-use lib.ListN.{length}
 use Rattle.description.proofs.Lengths.{live-least}
 use Rattle.description.proofs.Writings.{no-room, has-room}
 use Rattle.description.proofs.live.Statement.{statement}
-use Rattle.description.specs.Description.{Description, described, liveText}
+use Rattle.description.specs.Description.{described, liveText}
 use borrow.Author.Needs.{needs}
 use borrow.Author.Tests.{leb-true, leb-false, not-true, not-false}
+use lib.ListN.{length}
 use mathlib.Core.Path.{sym, _∙_}
 use native.Mathlib.Omega.{arith}
 use Rattle.description.proofs.live.Tie as tie

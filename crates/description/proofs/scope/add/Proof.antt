@@ -2,12 +2,10 @@ use Rattle.description.proofs.Behind.{after-one, put-none}
 use Rattle.description.proofs.Names.{added-clear, added-set, first-name, later-name, name-most}
 use Rattle.description.proofs.scope.add.Statement.{statement}
 use Rattle.description.specs.Scope.{scopeName}
-use Rattle.octets.specs.Parts.{put}
 use borrow.Author.Needs.{needs}
-use lib.ListN.{length}
-use mathlib.Core.Path.{refl, sym, _∙_, ap}
-use native.Mathlib.Omega.{arith}
 use borrow.Author.Tests.{not-true, not-false}
+use mathlib.Core.Path.{refl, sym, _∙_}
+use native.Mathlib.Omega.{arith}
 use Rattle.description.proofs.scope.add.Tie as tie
 
 returns : tie.Need-returns
