@@ -406,6 +406,7 @@ static void shown(void) {
     EXPECT(lent(ledger)[7] == (1000 & 0xff)); /* the clock */
     perdigolh_decided then = decide(in_order(1010, REFERENCE, CODE));
     EXPECT(then.answer.grant == d.answer.grant && then.answer.scope == d.answer.scope && then.length == d.length);
+    REFUSED(unseen(in_order(1010, CODE, 0)), PERDIGOLH_NO_REFERENCE);
 }
 
 static void pending_refused(void) {
