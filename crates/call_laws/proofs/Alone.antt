@@ -362,7 +362,7 @@ start-unchanged l = by (sized l)
     by true n = absurd (n refl)
     by false n = refl
 
--- ---- pending: "The ledger is only read."
+-- ---- pending: the ledger is only read
 
 pub pending-unchanged : (l : List ℕ) (t : ℕ) (p : PendingRequest) (out : List ℕ) → (pending l t p out) .answer .answer .number ≢ done
     → ((pending l t p out) .ledger ≡ l) × ((pending l t p out) .output ≡ out)
