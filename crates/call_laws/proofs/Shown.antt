@@ -13,7 +13,7 @@ use Rattle.octets.specs.Parts.{part, put}
 use Rattle.octets.specs.Spans.{Span, field}
 use Rattle.octets.proofs.Parts.{length-put, put-same, part-length}
 use Rattle.ledger.specs.Limits.{recordSize}
-use Rattle.ledger.specs.Fields.{rec, slots, stateNumber, stateSpan, scopeSpan, scope, grantSpan, grant, expirySpan, holderSpan, valueSpan, redirectField}
+use Rattle.ledger.specs.Fields.{rec, stateNumber, stateSpan, scopeSpan, scope, grantSpan, grant, expirySpan, holderSpan, valueSpan, redirectField}
 use Rattle.ledger.specs.Checks.{isReference}
 use Rattle.ledger.specs.Write.{consented}
 use Rattle.ledger.specs.declared.state.State.the-variants.{Consented}
@@ -21,14 +21,12 @@ use Rattle.ledger.proofs.Records.{rec-length}
 use Rattle.ledger_laws.proofs.Puts.{take-put, Store, of-number, of-bytes, stored, spared, length-stored, stored-spared}
 use Rattle.ledger_laws.proofs.Searches.{first-in}
 use Rattle.desk.specs.Limits.{outputLeast}
-use Rattle.desk.specs.Answers.{done}
 use Rattle.desk.specs.Outcome.{Outcome}
 use Rattle.desk.specs.Requests.{PendingRequest}
 use Rattle.desk.specs.Decide.{handedOut, consentRecord, consentAt, declineAt, decideAt, decide}
 use Rattle.desk.specs.Pending.{pendingPlace, pendingAt, pending}
 use Rattle.desk.specs.declared.answer.Decided.{Decided}
 use Rattle.desk.proofs.Turns.{number-refused}
-use Rattle.call_laws.specs.Accepted.{PendingAccepted, DecideAccepted}
 use Rattle.call_laws.specs.Shown.{deciding, Accepted, SameGrant, Shown}
 use Rattle.call_laws.proofs.Rows.{decide-cases, pending-cases}
 use Rattle.call_laws.proofs.Facts.{PendingFacts, pending-facts, decide-facts}
