@@ -44,6 +44,9 @@ use Rattle.desk.specs.declared.answer.Decided.{Decided}
 use Rattle.desk.specs.declared.answer.Swept.{Swept}
 use Rattle.desk.proofs.Turns.{number-refused}
 use Rattle.call_laws.proofs.Rows.{push-cases, decide-cases, token-cases, resource-cases, sweep-cases}
+use Rattle.desk.specs.Requests.{PendingRequest}
+use Rattle.desk.specs.Pending.{pendingAt, pending}
+use Rattle.call_laws.proofs.Rows.{pending-cases}
 use Rattle.call_laws.proofs.Facts.{PushFacts, push-facts, DecideFacts, decide-facts, TokenFacts, token-facts, resource-facts, sweep-facts}
 
 -- ---- one record rewritten, and the clock
@@ -358,3 +361,17 @@ start-unchanged l = by (sized l)
         → (cond b (left done (emptyLedger (length l))) (left (numberOf LedgerUnsound) l)) .ledger ≡ l
     by true n = absurd (n refl)
     by false n = refl
+
+-- ---- pending: the ledger is only read
+
+pub pending-unchanged : (l : List ℕ) (t : ℕ) (p : PendingRequest) (out : List ℕ) → (pending l t p out) .answer .answer .number ≢ done
+    → ((pending l t p out) .ledger ≡ l) × ((pending l t p out) .output ≡ out)
+unfolding pendingAt
+pending-unchanged l t p out =
+    pending-cases l t p out (λ (o : Outcome Decided). o .answer .answer .number ≢ done → (o .ledger ≡ l) × (o .output ≡ out)) (λ why u n. (refl, refl))
+    (λ ok n. absurd (n refl))
+
+-- accepted or refused
+pub pending-ledger : (l : List ℕ) (t : ℕ) (p : PendingRequest) (out : List ℕ) → (pending l t p out) .ledger ≡ l
+unfolding pendingAt
+pending-ledger l t p out = pending-cases l t p out (λ (o : Outcome Decided). o .ledger ≡ l) (λ why u. refl) (λ ok. refl)

@@ -22,6 +22,8 @@ use Rattle.desk.specs.Token.{codePlace, tokenChecks, tokenAt, tokenLeaves, toke
 use Rattle.desk.specs.Resource.{tokenPlace, resourceChecks, readBy, look, resourceLeaves, resourceBy, resource}
 use Rattle.desk.specs.Sweep.{sweepChecks, sweepLeaves, sweep}
 use Rattle.desk.specs.Start.{start, emptyLedger}
+use Rattle.desk.specs.Requests.{PendingRequest}
+use Rattle.desk.specs.Pending.{pendingPlace, pendingChecks, pendingAt, pendingLeaves, pending}
 use Rattle.desk.specs.declared.answer.Answer.{Answer}
 use Rattle.desk.specs.declared.answer.Decided.{Decided}
 use Rattle.desk.specs.declared.answer.Swept.{Swept}
@@ -144,6 +146,28 @@ module _ (l : List ℕ) (t : ℕ) where
   pub sweep-turn : (why : Refusal) → ((sweep l t) .answer .number ≡ numberOf why) ↔ Turn why (sweepChecks l t)
   sweep-turn = turns-exactly _ (sweepChecks l t) sweep-number
 
+module _ (l : List ℕ) (t : ℕ) (p : PendingRequest) (out : List ℕ) where
+  pub pending-cases : (P : Outcome Decided → Type 0) → ((why : Refusal) → Turn why (pendingChecks l t p out (pendingPlace l p)) → P (pendingLeaves l out why))
+      → (Passed (pendingChecks l t p out (pendingPlace l p)) → P (pendingAt l out (pendingPlace l p))) → P (pending l t p out)
+  unfolding pending
+  pending-cases P f g =
+      by-turns (pendingChecks l t p out (pendingPlace l p))
+      (λ (v : Verdict). P (concludes v (pendingLeaves l out) (pendingAt l out (pendingPlace l p)))) f g
+
+  pending-number : (pending l t p out) .answer .answer .number ≡ numberBy (first (pendingChecks l t p out (pendingPlace l p)))
+  unfolding pending pendingAt
+  pending-number = by (first (pendingChecks l t p out (pendingPlace l p)))
+    where
+      by : (v : Verdict) → (concludes v (pendingLeaves l out) (pendingAt l out (pendingPlace l p))) .answer .answer .number ≡ numberBy v
+      by accepted = refl
+      by (stopped why) = refl
+
+  pub pending-passed : ((pending l t p out) .answer .answer .number ≡ done) ↔ Passed (pendingChecks l t p out (pendingPlace l p))
+  pending-passed = passes-exactly _ (pendingChecks l t p out (pendingPlace l p)) pending-number
+
+  pub pending-turn : (why : Refusal) → ((pending l t p out) .answer .answer .number ≡ numberOf why) ↔ Turn why (pendingChecks l t p out (pendingPlace l p))
+  pending-turn = turns-exactly _ (pendingChecks l t p out (pendingPlace l p)) pending-number
+
 -- start has one check: the length
 module _ (l : List ℕ) where
   pub start-passed : ((start l) .answer ≡ done) ↔ (sized l ≡ true)
@@ -226,6 +250,11 @@ resource-numbers l t q = listed _ (resourceChecks l t q (tokenPlace l q)) (resou
 pub sweep-numbers : (l : List ℕ) (t : ℕ) → isOneOf (0 ∷ 1 ∷ 2 ∷ []) ((sweep l t) .answer .number) ≡ true
 unfolding sweepChecks
 sweep-numbers l t = listed _ (sweepChecks l t) (sweep-number l t)
+
+pub pending-numbers : (l : List ℕ) (t : ℕ) (p : PendingRequest) (out : List ℕ)
+    → isOneOf (0 ∷ 1 ∷ 2 ∷ 20 ∷ 10 ∷ 11 ∷ []) ((pending l t p out) .answer .answer .number) ≡ true
+unfolding pendingChecks
+pending-numbers l t p out = listed _ (pendingChecks l t p out (pendingPlace l p)) (pending-number l t p out)
 
 pub start-numbers : (l : List ℕ) → isOneOf (0 ∷ 1 ∷ []) ((start l) .answer) ≡ true
 unfolding start

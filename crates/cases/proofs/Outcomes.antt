@@ -9,6 +9,7 @@ use Rattle.desk.specs.Decide.{decide}
 use Rattle.desk.specs.Token.{token}
 use Rattle.desk.specs.Resource.{resource}
 use Rattle.desk.specs.Sweep.{sweep}
+use Rattle.desk.specs.Pending.{pending}
 use Rattle.desk.specs.declared.answer.Answer.{Answer}
 use Rattle.desk.specs.declared.answer.Decided.{Decided}
 use Rattle.desk.specs.declared.answer.Swept.{Swept}
@@ -42,6 +43,8 @@ one-each =
       token-one = λ l t table q. made-one (Answer × List ℕ) (Outcome Answer) (λ x. left (x .0) (x .1)) (λ o. (o .answer, o .ledger)) (λ x. refl) (token l t table q);
       resource-one = λ l t q. made-one (Answer × List ℕ) (Outcome Answer) (λ x. left (x .0) (x .1)) (λ o. (o .answer, o .ledger)) (λ x. refl) (resource l t q);
       sweep-one = λ l t. made-one (Swept × List ℕ) (Outcome Swept) (λ x. left (x .0) (x .1)) (λ o. (o .answer, o .ledger)) (λ x. refl) (sweep l t);
+      pending-one = λ l t p out.
+          made-one (Decided × List ℕ) (Outcome Decided) (λ x. leftWith (x .0) l (x .1)) (λ o. (o .answer, o .output)) (λ x. refl) (pending l t p out);
     }
 
 -- ---- the structs that C reads lose nothing
@@ -72,4 +75,7 @@ one-exported =
       perdigolh-resource = λ l t q. answer-one (resource l t q);
       perdigolh-sweep = λ l t.
           made-one (FrontSwept × List ℕ) (Outcome Swept) (λ x. left (asSwept (x .0)) (x .1)) (λ o. (fromSwept (o .answer), o .ledger)) (λ x. refl) (sweep l t);
+      perdigolh-pending = λ l t p out.
+          made-one (FrontDecided × List ℕ) (Outcome Decided) (λ x. leftWith (asDecided (x .0)) l (x .1)) (λ o. (fromDecided (o .answer), o .output)) (λ x. refl)
+          (pending l t p out);
     }

@@ -1,6 +1,6 @@
 -- "The statement settles the answer and each lent byte afterwards for all inputs, refused ones too; prove that any two outcomes allowed by it are equal".
 -- An outcome is all that a caller sees of a call: what is returned, and the bytes of each buffer that was lent to be written.
--- A contract says of an outcome whether it is allowed. Of the six calls and of the functions exported for them it is proved that any two outcomes
+-- A contract says of an outcome whether it is allowed. Of the six calls, of pending and of the functions exported for them it is proved that any two outcomes
 -- allowed are equal. For every other public function it is proved of the form, and docs/OUTCOMES.md lists the form that its contract has, as a script reads it.
 use Prim.Native.Nat.{ℕ}
 use mathlib.Core.Path.{_≡_}
@@ -13,6 +13,8 @@ use Rattle.desk.specs.Decide.{decide}
 use Rattle.desk.specs.Token.{token}
 use Rattle.desk.specs.Resource.{resource}
 use Rattle.desk.specs.Sweep.{sweep}
+use Rattle.desk.specs.Requests.{PendingRequest}
+use Rattle.desk.specs.Pending.{pending}
 use Rattle.desk.specs.declared.answer.Answer.{Answer}
 use Rattle.desk.specs.declared.answer.Decided.{Decided}
 use Rattle.desk.specs.declared.answer.Swept.{Swept}
@@ -55,6 +57,9 @@ pub record OneEach : Type 1 where
   pub token-one : (l : List ℕ) (t : ℕ) (table : List ℕ) (q : TokenRequest) → OneOutcome (λ (x : Answer × List ℕ). left (x .0) (x .1) ≡ token l t table q)
   pub resource-one : (l : List ℕ) (t : ℕ) (q : ResourceRequest) → OneOutcome (λ (x : Answer × List ℕ). left (x .0) (x .1) ≡ resource l t q)
   pub sweep-one : (l : List ℕ) (t : ℕ) → OneOutcome (λ (x : Swept × List ℕ). left (x .0) (x .1) ≡ sweep l t)
+  -- and of pending, to which the ledger is lent to be read only: it stands in the contract as it was
+  pub pending-one : (l : List ℕ) (t : ℕ) (p : PendingRequest) (out : List ℕ)
+      → OneOutcome (λ (x : Decided × List ℕ). leftWith (x .0) l (x .1) ≡ pending l t p out)
 
 -- the contracts of the functions exported to C, word for word: the desk's equation, read through the structs that C reads
 pub record OneExported : Type 0 where
@@ -70,3 +75,5 @@ pub record OneExported : Type 0 where
   pub perdigolh-resource : (l : List ℕ) (t : ℕ) (q : ResourceRequest)
       → OneOutcome (λ (x : FrontAnswer × List ℕ). left (asAnswer (x .0)) (x .1) ≡ resource l t q)
   pub perdigolh-sweep : (l : List ℕ) (t : ℕ) → OneOutcome (λ (x : FrontSwept × List ℕ). left (asSwept (x .0)) (x .1) ≡ sweep l t)
+  pub perdigolh-pending : (l : List ℕ) (t : ℕ) (p : PendingRequest) (out : List ℕ)
+      → OneOutcome (λ (x : FrontDecided × List ℕ). leftWith (asDecided (x .0)) l (x .1) ≡ pending l t p out)

@@ -1,4 +1,4 @@
--- The six calls under one roof: what each is handed beside the ledger and the client table, and what it leaves.
+-- The six calls, and pending beside them, under one roof: what each is handed beside the ledger and the client table, and what it leaves.
 use Prim.Native.Nat.{ℕ}
 use mathlib.Core.List.{List, [], _∷_, _++_}
 use Rattle.desk.specs.Requests.{PushRequest, DecideRequest, TokenRequest, ResourceRequest}
@@ -8,6 +8,8 @@ use Rattle.desk.specs.Decide.{decide as doDecide}
 use Rattle.desk.specs.Token.{token as doToken}
 use Rattle.desk.specs.Resource.{resource as doResource}
 use Rattle.desk.specs.Sweep.{sweep as doSweep}
+use Rattle.desk.specs.Requests.{PendingRequest}
+use Rattle.desk.specs.Pending.{pending as doPending}
 use Rattle.desk.specs.declared.answer.Answer.{Answer}
 use Rattle.desk.specs.declared.answer.Swept.{Swept}
 
@@ -18,8 +20,9 @@ pub data Kind : Type 0 where
   Token : Kind
   Resource : Kind
   Sweep : Kind
+  Pending : Kind
 
--- a call: its time, its request, and decide's output buffer
+-- a call: its time, its request, and the output buffer of decide and of pending
 pub data Call : Type 0 where
   start : Call
   push : ℕ → PushRequest → Call
@@ -27,6 +30,7 @@ pub data Call : Type 0 where
   token : ℕ → TokenRequest → Call
   resource : ℕ → ResourceRequest → Call
   sweep : ℕ → Call
+  pending : ℕ → PendingRequest → List ℕ → Call
 
 abbrev pub kindOf : Call → Kind
 kindOf start = Start
@@ -35,8 +39,9 @@ kindOf (decide t d out) = Decide
 kindOf (token t q) = Token
 kindOf (resource t q) = Resource
 kindOf (sweep t) = Sweep
+kindOf (pending t p out) = Pending
 
--- the bytes lent as output: decide alone has them
+-- the bytes lent as output: decide and pending alone have them
 abbrev pub lent : Call → List ℕ
 lent start = []
 lent (push t p) = []
@@ -44,6 +49,7 @@ lent (decide t d out) = out
 lent (token t q) = []
 lent (resource t q) = []
 lent (sweep t) = []
+lent (pending t p out) = out
 
 -- what a call leaves: its number, the values beside it in the answer's order, the ledger's bytes, the output's bytes
 pub record Left : Type 0 where
@@ -93,3 +99,10 @@ leaves l table (resource t q) =
     }
 leaves l table (sweep t) =
     record { number = doSweep l t .answer .number; beside = three (doSweep l t .answer); ledger = doSweep l t .ledger; output = [] }
+leaves l table (pending t p out) =
+    record {
+      number = doPending l t p out .answer .answer .number;
+      beside = four (doPending l t p out .answer .answer) ++ (doPending l t p out .answer .length ∷ []);
+      ledger = doPending l t p out .ledger;
+      output = doPending l t p out .output;
+    }
