@@ -268,8 +268,8 @@ perdigolh_swept perdigolh_sweep(uint8_t *ledger, size_t ledger_length, uint64_t 
  * Changed: the first 64 bytes of the output, where the redirect goes, with zeros behind it; later bytes stay. The ledger stays as it
  *          is, its clock included.
  * Checks, in order: 1, 2, 20, 10, 11: decide's, as far as they are about the request.
- * Answer:  the grant number, holder 0, the scope that she would allow, the expiry of the reference; the redirect's length. A decide
- *          that follows at the same time is about this grant number, this scope and this redirect.
+ * Answer:  the grant number, holder 0, the scope that she would allow, the expiry of the reference; the redirect's length. On the
+ *          ledger as it is, a decide on this reference is about this grant number and this redirect, and a yes allows this scope.
  */
 perdigolh_decided perdigolh_pending(const uint8_t *ledger, size_t ledger_length, uint64_t time, const uint8_t reference[32],
                                     const uint8_t client[16], uint8_t *output, size_t output_length);

@@ -136,6 +136,17 @@ def constant(path, name):
     return int(re.search(rf"pub const {word}: \w+ = (\w+);", body).group(1), 0)
 
 
+def text_most():
+    """The greatest length of a text: the sum that its definition has."""
+    def defined(path, name):
+        return re.search(rf"^{name}(?: \w+)? = (.*)$", read(f"crates/{path}"), re.M).group(1)
+
+    text = "description/specs/Apart.antt"
+    names = {"n": defined(text, "expiryDigits"), "decimalMost": defined("texts/specs/Decimal.antt", "decimalMost"), "scopeMost": defined("description/specs/Scope.antt", "scopeMost")}
+    total = re.sub(r"[A-Za-z]\w*", lambda name: names[name.group()], defined(text, "mostWith"))
+    return sum(map(int, re.findall(r"\d+", total))) if re.fullmatch(r"[\d+() ]+", total) and defined(text, "liveMost") == "mostWith expiryDigits" else None
+
+
 def results():
     """Each comparison as its name, what is said and what the source says."""
     front, answers = read("crates/front/src/lib.rt"), read("crates/front/src/answer.rt")
@@ -160,11 +171,11 @@ def results():
         yield f"header: struct {name}", declared.get(c_type(name)), source[name]
         yield f"bindings: struct {name}", bound.get(name), source[name]
 
-    for name, path, origin in CONSTANTS:
+    for name, wanted in [(name, constant(path, origin)) for name, path, origin in CONSTANTS] + [("TEXT_MOST", text_most())]:
         said = re.search(rf"#define PERDIGOLH_{name} (\d+)", header)
-        yield f"header: {name}", said and int(said.group(1)), constant(path, origin)
+        yield f"header: {name}", said and int(said.group(1)), wanted
         said = re.search(rf"const {name}: \w+ = (\d+);", library)
-        yield f"bindings: {name}", said and int(said.group(1)), constant(path, origin)
+        yield f"bindings: {name}", said and int(said.group(1)), wanted
 
     yes = constant("front/src/choice.rt", "Choice::YES")
     for side, said in (("header", re.search(r"#define PERDIGOLH_NO (\d+)\n", header)), ("bindings", re.search(r"const NO: u8 = (\d+);", library))):

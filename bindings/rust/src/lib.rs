@@ -254,8 +254,8 @@ impl<'a> Ledger<'a> {
     }
 
     /// Checks 1, 2, 20, 10, 11; then the answer is the request that the holder is to see, and its redirect stands in the first 64
-    /// bytes of the output, with zeros behind it. The ledger is only read: a decide that follows at the same time is about this
-    /// grant number, this scope and this redirect.
+    /// bytes of the output, with zeros behind it. The ledger is only read; as it is, a decide on this reference is about this grant
+    /// number and this redirect, and a yes allows this scope.
     pub fn pending(&self, time: u64, request: &Pending, output: &mut [u8]) -> Result<Shown, Refusal> {
         // SAFETY: every pointer is a reference's or a slice's with its length, and the output is borrowed alone.
         let shown = unsafe {
