@@ -1,8 +1,9 @@
 //! What pending shows is what decide then allows, through the archive: shown [COUNT [SEED]]
 //!
 //! On sound, damaged and wrong-sized ledgers, at good and bad times, with references and client ids that are known and not: pending,
-//! and behind it decide on the ledger that it left, yes and no. Both refuse by one number, or decide answers the grant number, the
-//! scope and the redirect that were shown. Each number of pending must come up (with a COUNT of 2000 or more).
+//! and behind it decide on the ledger that it left: yes and no at the same time, and yes later. At the same time both refuse by one
+//! number or none does; whenever decide is accepted, it answers the grant number, the scope and the redirect that were shown. Each
+//! number of pending must come up (with a COUNT of 2000 or more).
 
 use std::process::ExitCode;
 
@@ -34,13 +35,18 @@ fn main() -> ExitCode {
             let shown = called(&mut archive, &request, Kind::Pending);
             let row = numbers.iter().position(|&number| number == shown.number).expect("a number of pending");
             seen[row] += 1;
-            for yes in [YES, NO] {
-                let next = Request { ledger: shown.ledger.clone(), yes, ..request.clone() };
+            for (yes, later) in [(YES, 0), (NO, 0), (YES, 1 + chance.below(600) as u64)] {
+                let time = request.time.wrapping_add(later);
+                let next = Request { ledger: shown.ledger.clone(), time, yes, ..request.clone() };
                 let decided = called(&mut archive, &next, Kind::Decide);
-                if !follows(&shown, &decided, &request, yes) {
+                if !reads(&shown, &request) || !follows(&shown, &decided, &next, later) {
                     wrong[row] += 1;
                     if wrong.iter().sum::<usize>() <= SHOWN {
-                        println!("try {tried}, yes {yes}\n  shown   {}\n  decided {}", cut(&shown), cut(&decided));
+                        println!(
+                            "try {tried}, yes {yes}, {later} later\n  shown   {}\n  decided {}",
+                            cut(&shown),
+                            cut(&decided)
+                        );
                     }
                 }
             }
@@ -66,13 +72,19 @@ fn called(archive: &mut Archive, request: &Request, kind: Kind) -> Outcome {
     archive.call(&Request { kind, ..request.clone() }, Place::Last).expect("nothing but what is lent is touched")
 }
 
-/// Whether a decision is about what was shown: the ledger is as it was, and number, grant number, scope, redirect are the same.
-fn follows(shown: &Outcome, decided: &Outcome, request: &Request, yes: u8) -> bool {
-    let scope = if yes == YES { shown.scope } else { 0 };
-    shown.ledger == request.ledger
-        && shown.number == decided.number
-        && (shown.number != 0 || (shown.holder == 0 && shown.scope != 0 && request.time < shown.expiry))
-        && (shown.grant, scope, shown.length) == (decided.grant, decided.scope, decided.length)
+/// Whether pending has left the ledger as it was, and shows a request that waits.
+fn reads(shown: &Outcome, request: &Request) -> bool {
+    let waits = shown.holder == 0 && shown.scope != 0 && request.time < shown.expiry;
+    shown.ledger == request.ledger && (waits || shown.number != 0)
+}
+
+/// Whether a decision is about what was shown: grant number, scope and redirect are the same, and at the same time the number is.
+fn follows(shown: &Outcome, decided: &Outcome, asked: &Request, later: u64) -> bool {
+    if later > 0 && (shown.number, decided.number) != (0, 0) {
+        return true;
+    }
+    let scope = if asked.yes == YES { shown.scope } else { 0 };
+    (shown.number, shown.grant, scope, shown.length) == (decided.number, decided.grant, decided.scope, decided.length)
         && shown.output == decided.output
 }
 
