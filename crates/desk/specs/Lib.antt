@@ -1,4 +1,4 @@
--- The six calls: their answers, their checks in order, and what each does (demands 1 and 2).
+-- The calls: their answers, their checks in order, and what each does (demands 1 and 2).
 pub mod Limits
 pub mod Answers
 pub mod Checks
@@ -10,4 +10,5 @@ pub mod Decide
 pub mod Token
 pub mod Resource
 pub mod Sweep
+pub mod Introspect
 pub mod Tests
