@@ -5,3 +5,4 @@ pub mod Facts
 pub mod Alone
 pub mod Keeping
 pub mod Accepting
+pub mod Living
