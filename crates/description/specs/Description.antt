@@ -14,6 +14,9 @@ pub record Description : Type 0 where
   pub scope : ℕ
   pub key : List ℕ
 
+abbrev pub described : List ℕ → ℕ → ℕ → ℕ → List ℕ → Description
+described client holder expiry scope key = record { client = client; holder = holder; expiry = expiry; scope = scope; key = key }
+
 -- "client_id (32 lower-case hex digits)"
 unfoldable pub clientMember : List ℕ → List ℕ
 clientMember id = bytes "\"client_id\":\"" ++ (hex id ++ bytes "\"")

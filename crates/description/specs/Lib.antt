@@ -2,3 +2,4 @@
 pub mod Literal
 pub mod Scope
 pub mod Description
+pub mod Writing

@@ -33,6 +33,10 @@ spaced (w ∷ v ∷ ws) = w ++ (bytes " " ++ spaced (v ∷ ws))
 unfoldable pub oneMore : ℕ → List ℕ → List ℕ
 oneMore n w = cond (eqb n 0) w (bytes " " ++ w)
 
+-- what bit 2^i of s adds behind a text of n characters
+unfoldable pub added : ℕ → ℕ → ℕ → List ℕ
+added s n i = cond (isSet s i) (oneMore n (scopeName i)) []
+
 -- the names of the bits below 2^n that are set in s
 unfoldable pub namesBelow : ℕ → ℕ → List ℕ
 namesBelow s n = spaced (map scopeName (bitsBelow s n))
