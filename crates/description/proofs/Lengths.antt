@@ -5,7 +5,7 @@ use mathlib.Core.Path.{_≡_, refl, sym, ap, _∙_}
 use mathlib.Core.List.{List, [], _∷_, _++_, append-assoc}
 use lib.ListN.{length, length-append}
 use Rattle.texts.specs.Hex.{hex}
-use Rattle.texts.specs.Decimal.{decimal}
+use Rattle.texts.specs.Decimal.{decimal, decimalMost}
 use Rattle.texts.specs.Base64url.{base64url}
 use Rattle.texts.proofs.Hexes.{length-hex}
 use Rattle.texts.proofs.Decimals.{length-decimal, most-in}
@@ -13,6 +13,7 @@ use Rattle.texts.proofs.Letters.{length-base64url}
 use Rattle.description.specs.Literal.{bytes}
 use Rattle.description.specs.Scope.{scopeNames, scopeMost}
 use Rattle.description.specs.Description.{Description, clientMember, subMember, expMember, scopeMember, cnfMember, liveText}
+use Rattle.description.specs.Apart.{Fielded, mostWith, expiryDigits, Longest}
 use Rattle.description.proofs.Names.{length-names}
 
 pub length-client : (id : List ℕ) → length (clientMember id) ≡ 14 + 2 * length id
@@ -60,3 +61,28 @@ length-live d =
 -- the digits of the client and the bytes of the key alone are shorter
 pub live-least : (d : Description) → 2 * length (d .client) + length (d .key) < length (liveText d)
 live-least d = omega (arith, length-live d, length-client (d .client), length-last (d .key))
+
+-- ---- at most
+
+by-digits : (d : Description) (n : ℕ) → Fielded d → length (decimal (d .expiry)) ≤ n → length (liveText d) ≤ mostWith n
+by-digits d n f h =
+    let c = f .client in
+    let k = f .key in
+    omega (
+      arith,
+      length-live d,
+      length-client (d .client),
+      length-sub (d .holder),
+      length-decimal (d .holder) (f .holder),
+      length-exp (d .expiry),
+      length-scope (d .scope),
+      length-names (d .scope),
+      length-last (d .key),
+    )
+
+pub longest : Longest
+longest = record {
+  scope = length-names;
+  widest = λ d f. by-digits d decimalMost f (length-decimal (d .expiry) (f .expiry));
+  sound = λ d f h. by-digits d expiryDigits f (most-in 12 (d .expiry) (omega arith));
+}

@@ -48,11 +48,11 @@ add-word (b ∷ bits) i =
     let n : length (spaced (scopeName b ∷ ws)) ≡ 0 → ⊥ = λ e. omega arith in
     ap spaced (map-more scopeName (b ∷ bits) i) ∙ spaced-more (scopeName b) ws (scopeName i) ∙ rw (ne-eqb (length (spaced (scopeName b ∷ ws))) 0 n)
 
-bits-set : (s i : ℕ) → isSet s i ≡ true → bitsBelow s (suc i) ≡ bitsBelow s i ++ (i ∷ [])
+pub bits-set : (s i : ℕ) → isSet s i ≡ true → bitsBelow s (suc i) ≡ bitsBelow s i ++ (i ∷ [])
 unfolding bitsBelow
 bits-set s i e = rw e
 
-bits-clear : (s i : ℕ) → isSet s i ≡ false → bitsBelow s (suc i) ≡ bitsBelow s i
+pub bits-clear : (s i : ℕ) → isSet s i ≡ false → bitsBelow s (suc i) ≡ bitsBelow s i
 unfolding bitsBelow
 bits-clear s i e = rw e
 

@@ -3,3 +3,4 @@ pub mod Literal
 pub mod Scope
 pub mod Description
 pub mod Writing
+pub mod Apart
