@@ -28,6 +28,7 @@ use Rattle.desk.specs.Resource.{tokenPlace, resourceChecks}
 use Rattle.desk.specs.Sweep.{sweepChecks}
 use Rattle.desk.specs.Requests.{PendingRequest}
 use Rattle.desk.specs.Pending.{pendingPlace, pendingChecks}
+use Rattle.desk.specs.Introspect.{textFor, introspectChecks}
 use Rattle.desk.proofs.Turns.{Passed}
 
 -- ---- push
@@ -229,3 +230,19 @@ module _ (l : List ℕ) (t : ℕ) (p : PendingRequest) (out : List ℕ) where
   pub facts-pending : PendingFacts l t p out → Passed (pendingChecks l t p out (pendingPlace l p))
   unfolding pendingChecks
   facts-pending f = (ap not (f .ledger-sound), (f .in-time, (f .output-long, (ap not (f .there), (f .alive, tt)))))
+
+-- ---- introspect
+
+pub record IntrospectFacts (l : List ℕ) (t : ℕ) (v out : List ℕ) : Type 0 where
+  pub ledger-sound : sound l ≡ true
+  pub in-time : untimely l t ≡ false
+  pub output-long : ltb (length out) (length (textFor l t v)) ≡ false
+
+module _ (l : List ℕ) (t : ℕ) (v out : List ℕ) where
+  pub introspect-facts : Passed (introspectChecks l t v out) → IntrospectFacts l t v out
+  unfolding introspectChecks
+  introspect-facts ok = let (a, (b, (c, _))) = ok in record { ledger-sound = not-false (sound l) a; in-time = b; output-long = c }
+
+  pub facts-introspect : IntrospectFacts l t v out → Passed (introspectChecks l t v out)
+  unfolding introspectChecks
+  facts-introspect f = (ap not (f .ledger-sound), (f .in-time, (f .output-long, tt)))

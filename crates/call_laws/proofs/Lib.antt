@@ -6,3 +6,4 @@ pub mod Alone
 pub mod Keeping
 pub mod Accepting
 pub mod Shown
+pub mod Living

@@ -24,9 +24,11 @@ use Rattle.desk.specs.Sweep.{sweepChecks, sweepLeaves, sweep}
 use Rattle.desk.specs.Start.{start, emptyLedger}
 use Rattle.desk.specs.Requests.{PendingRequest}
 use Rattle.desk.specs.Pending.{pendingPlace, pendingChecks, pendingAt, pendingLeaves, pending}
+use Rattle.desk.specs.Introspect.{textFor, introspectChecks, introspectWith, introspectLeaves, introspect}
 use Rattle.desk.specs.declared.answer.Answer.{Answer}
 use Rattle.desk.specs.declared.answer.Decided.{Decided}
 use Rattle.desk.specs.declared.answer.Swept.{Swept}
+use Rattle.desk.specs.declared.answer.Introspected.{Introspected}
 use Rattle.desk.specs.declared.answer.Refusal.{Refusal}
 use Rattle.desk.specs.declared.answer.Refusal.the-variants.{LedgerUnsound}
 use Rattle.desk.proofs.Turns.{Passed, Turn, by-turns, numberBy, number-stopped, number-refused, passes-exactly, turns-exactly}
@@ -168,6 +170,27 @@ module _ (l : List ℕ) (t : ℕ) (p : PendingRequest) (out : List ℕ) where
   pub pending-turn : (why : Refusal) → ((pending l t p out) .answer .answer .number ≡ numberOf why) ↔ Turn why (pendingChecks l t p out (pendingPlace l p))
   pending-turn = turns-exactly _ (pendingChecks l t p out (pendingPlace l p)) pending-number
 
+module _ (l : List ℕ) (t : ℕ) (v out : List ℕ) where
+  pub introspect-cases : (P : Outcome Introspected → Type 0) → ((why : Refusal) → Turn why (introspectChecks l t v out) → P (introspectLeaves l out why))
+      → (Passed (introspectChecks l t v out) → P (introspectWith l out (textFor l t v))) → P (introspect l t v out)
+  unfolding introspect
+  introspect-cases P f g =
+      by-turns (introspectChecks l t v out) (λ (o : Verdict). P (concludes o (introspectLeaves l out) (introspectWith l out (textFor l t v)))) f g
+
+  introspect-number : (introspect l t v out) .answer .number ≡ numberBy (first (introspectChecks l t v out))
+  unfolding introspect introspectWith
+  introspect-number = by (first (introspectChecks l t v out))
+    where
+      by : (o : Verdict) → (concludes o (introspectLeaves l out) (introspectWith l out (textFor l t v))) .answer .number ≡ numberBy o
+      by accepted = refl
+      by (stopped why) = refl
+
+  pub introspect-passed : ((introspect l t v out) .answer .number ≡ done) ↔ Passed (introspectChecks l t v out)
+  introspect-passed = passes-exactly _ (introspectChecks l t v out) introspect-number
+
+  pub introspect-turn : (why : Refusal) → ((introspect l t v out) .answer .number ≡ numberOf why) ↔ Turn why (introspectChecks l t v out)
+  introspect-turn = turns-exactly _ (introspectChecks l t v out) introspect-number
+
 -- start has one check: the length
 module _ (l : List ℕ) where
   pub start-passed : ((start l) .answer ≡ done) ↔ (sized l ≡ true)
@@ -256,6 +279,10 @@ pub pending-numbers : (l : List ℕ) (t : ℕ) (p : PendingRequest) (out : List 
 unfolding pendingChecks
 pending-numbers l t p out = listed _ (pendingChecks l t p out (pendingPlace l p)) (pending-number l t p out)
 
+pub introspect-numbers : (l : List ℕ) (t : ℕ) (v out : List ℕ) → isOneOf (0 ∷ 1 ∷ 2 ∷ 20 ∷ []) ((introspect l t v out) .answer .number) ≡ true
+unfolding introspectChecks
+introspect-numbers l t v out = listed _ (introspectChecks l t v out) (introspect-number l t v out)
+
 pub start-numbers : (l : List ℕ) → isOneOf (0 ∷ 1 ∷ []) ((start l) .answer) ≡ true
 unfolding start
 start-numbers l = by (sized l)
@@ -299,6 +326,13 @@ unfolding sweep
 sweep-refusal l t why e =
     ap (λ (v : Verdict). concludes v (sweepLeaves l) (left (sweptOf (freed t l)) (withClock t (swept t l))))
     (number-stopped (first (sweepChecks l t)) why (sym (sweep-number l t) ∙ e))
+
+pub introspect-refusal : (l : List ℕ) (t : ℕ) (v out : List ℕ) (why : Refusal)
+    → (introspect l t v out) .answer .number ≡ numberOf why → introspect l t v out ≡ introspectLeaves l out why
+unfolding introspect
+introspect-refusal l t v out why e =
+    ap (λ (o : Verdict). concludes o (introspectLeaves l out) (introspectWith l out (textFor l t v)))
+    (number-stopped (first (introspectChecks l t v out)) why (sym (introspect-number l t v out) ∙ e))
 
 pub start-refusal : (l : List ℕ) → (start l) .answer ≡ numberOf LedgerUnsound → (start l) .ledger ≡ l
 unfolding start

@@ -48,15 +48,16 @@ use Rattle.desk.specs.Push.{pushRecord, pushAt}
 use Rattle.desk.specs.Decide.{waitingPlace, referencePlace, handedOut, consentRecord, consentAt, declineAt, decideAt}
 use Rattle.desk.specs.Token.{codePlace, tokenRecord, tokenAt}
 use Rattle.desk.specs.Resource.{tokenPlace}
+use Rattle.desk.specs.Introspect.{textFor, introspectWith}
 use Rattle.call_laws.specs.Conditions.{StandsAt}
 use Rattle.desk.proofs.Turns.{number-refused}
-use Rattle.call_laws.proofs.Rows.{push-cases, decide-cases, token-cases, resource-cases, sweep-cases}
-use Rattle.call_laws.proofs.Facts.{PushFacts, push-facts, DecideFacts, decide-facts, TokenFacts, token-facts, resource-facts, sweep-facts}
-use Rattle.call_laws.proofs.Readings.{known-is, free-stands, reference-stands, code-stands, token-stands}
+use Rattle.call_laws.proofs.Rows.{push-cases, decide-cases, token-cases, resource-cases, sweep-cases, introspect-cases}
+use Rattle.call_laws.proofs.Facts.{PushFacts, push-facts, DecideFacts, decide-facts, TokenFacts, token-facts, resource-facts, sweep-facts, introspect-facts}
+use Rattle.call_laws.proofs.Readings.{known-is, free-stands, reference-stands, code-stands, token-stands, text-so}
 use Rattle.call_laws.proofs.Alone.{length-pushed, length-consented, length-redeemed, push-next, start-writes, sweep-alone}
 use Rattle.demands.specs.Layout.{clockBytes, nextBytes, eightBytes, valueLong, keyLong}
-use Rattle.demands.specs.Calls.{start, push, decide, token, resource, sweep, four, three, Left, leaves}
-use Rattle.demands.specs.Afterwards.{Entered, Consenting, Redeeming, AllButOne, told, AfterStart, AfterPush, AfterDecide, AfterToken, AfterResource, AfterSweep}
+use Rattle.demands.specs.Calls.{start, push, decide, token, resource, sweep, introspect, four, three, Left, leaves}
+use Rattle.demands.specs.Afterwards.{Entered, Consenting, Redeeming, AllButOne, told, AfterStart, AfterPush, AfterDecide, AfterToken, AfterResource, AfterSweep, AfterIntrospect}
 use Rattle.desk.specs.Requests.{PendingRequest}
 use Rattle.desk.specs.Pending.{pendingPlace, pendingAt}
 use Rattle.call_laws.proofs.Rows.{pending-cases}
@@ -446,4 +447,25 @@ module _ (l : List ℕ) (t : ℕ) (p : PendingRequest) (out : List ℕ) where
         ledger-is = refl;
         answer-is = ap (λ (who : ℕ). grant r ∷ who ∷ scope r ∷ expiry r ∷ redirectLength r ∷ []) (waiting-sound l (p .reference) (p .client) (f .ledger-sound) x .holder-none (x .state-is));
         output-is = waiting-handed l (p .reference) (p .client) (f .ledger-sound) x out (f .output-long);
+      })
+
+-- ---- introspect
+
+module _ (l : List ℕ) (t : ℕ) (v out : List ℕ) where
+  pub after-introspect : leaves l [] (introspect t v out) .number ≡ done → AfterIntrospect l t v out (leaves l [] (introspect t v out))
+  unfolding introspectWith
+  after-introspect =
+      introspect-cases l t v out
+      (λ o. o .answer .number ≡ done
+      → AfterIntrospect l t v out (record { number = o .answer .number; beside = o .answer .length ∷ []; ledger = o .ledger; output = o .output }))
+      (λ why u e. absurd (number-refused why e))
+      (λ ok e.
+      let f = introspect-facts l t v out ok in
+      let room = ltb-false (length out) (length (textFor l t v)) (f .output-long) in
+      record {
+        text = textFor l t v;
+        text-is = text-so l t v (f .ledger-sound);
+        ledger-stays = refl;
+        answer-is = refl;
+        output-is = put-splice out 0 (textFor l t v) (omega (arith, room));
       })

@@ -4,7 +4,7 @@ use mathlib.Core.Path.{_≡_, refl, sym, ap, _∙_}
 use mathlib.Core.Logic.{_≢_, _⊎_, inl, inr, ⊎-elim, _↔_}
 use mathlib.Core.Bool.{Bool, true, false, not, _&&_, true≢false}
 use mathlib.Core.List.{List, []}
-use lib.Dec.{eqb}
+use lib.Dec.{eqb, ltb}
 use lib.ListN.{length}
 use borrow.Author.Tests.{ltb-true, lt-ltb, leb-true, le-leb, eqb-true, eq-eqb, not-true, not-false}
 use Rattle.octets.specs.Lists.{some}
@@ -40,12 +40,13 @@ use Rattle.desk.specs.Resource.{tokenPlace, resourceChecks}
 use Rattle.desk.specs.Sweep.{sweepChecks}
 use Rattle.desk.specs.Requests.{PendingRequest}
 use Rattle.desk.specs.Pending.{pendingPlace, pendingChecks}
+use Rattle.desk.specs.Introspect.{textFor, introspectChecks}
 use Rattle.desk.specs.declared.answer.Refusal.{Refusal}
-use Rattle.call_laws.specs.Conditions.{ScopeWithin, FreshValue, StandsAt, TokenAt}
-use Rattle.call_laws.proofs.Rows.{startChecks, start-turn, push-turn, decide-turn, token-turn, resource-turn, sweep-turn}
-use Rattle.call_laws.proofs.Readings.{time-says, known-is, is-known, scope-says, fresh-says, match-says, place-named, reference-stands, code-stands, redeemed-stands, token-stands}
-use Rattle.demands.specs.Calls.{Call, start, push, decide, token, resource, sweep, leaves}
-use Rattle.demands.specs.Rows.{Not, Turn, startRows, pushRows, decideRows, tokenRows, resourceRows, begins, rows}
+use Rattle.call_laws.specs.Conditions.{ScopeWithin, FreshValue, StandsAt, TokenAt, TextFor}
+use Rattle.call_laws.proofs.Rows.{startChecks, start-turn, push-turn, decide-turn, token-turn, resource-turn, sweep-turn, introspect-turn}
+use Rattle.call_laws.proofs.Readings.{time-says, known-is, is-known, scope-says, fresh-says, match-says, place-named, reference-stands, code-stands, redeemed-stands, token-stands, text-so, text-only}
+use Rattle.demands.specs.Calls.{Call, start, push, decide, token, resource, sweep, introspect, leaves}
+use Rattle.demands.specs.Rows.{Not, Turn, startRows, pushRows, decideRows, tokenRows, resourceRows, introspectRows, begins, rows}
 use Rattle.call_laws.proofs.Rows.{pending-turn}
 use Rattle.demands.specs.Calls.{pending}
 use Rattle.demands.specs.Rows.{pendingRows}
@@ -264,6 +265,26 @@ module _ (l : List ℕ) (t : ℕ) (p : PendingRequest) (out : List ℕ) where
   pending-turns : (why : Refusal) → (leaves l [] (pending t p out) .number ≡ numberOf why) ↔ Turn why (pendingRows l t p out)
   pending-turns why = turns-say _ why (pendingChecks l t p out (pendingPlace l p)) (pendingRows l t p out) pending-agrees (pending-turn l t p out why)
 
+module _ (l : List ℕ) (t : ℕ) (v out : List ℕ) where
+  short-says : sound l ≡ true
+      → (ltb (length out) (length (textFor l t v)) ≡ true) ↔ ((text : List ℕ) × TextFor l t v text × (length out < length text))
+  short-says ok = (
+    λ e. (textFor l t v, text-so l t v ok, ltb-true (length out) (length (textFor l t v)) e),
+    λ x.
+        ap (λ (text : List ℕ). ltb (length out) (length text)) (text-only l t v ok (x .0) (x .1))
+        ∙ lt-ltb (length out) (length (x .0)) (x .2),
+  )
+
+  introspect-agrees : Agreed (introspectChecks l t v out) (introspectRows l t v out)
+  unfolding introspectChecks
+  introspect-agrees =
+      row (not-says (sound l) (ledger-says l)) (λ s.
+      row (flip-says (untimely l t) (time-says l t)) (λ i.
+      row (short-says (not-false (sound l) s)) (λ o. none)))
+
+  introspect-turns : (why : Refusal) → (leaves l [] (introspect t v out) .number ≡ numberOf why) ↔ Turn why (introspectRows l t v out)
+  introspect-turns why = turns-say _ why (introspectChecks l t v out) (introspectRows l t v out) introspect-agrees (introspect-turn l t v out why)
+
 pub turns : (l table : List ℕ) (c : Call) (why : Refusal) → (leaves l table c .number ≡ numberOf why) ↔ Turn why (rows l table c)
 turns l table start why = start-turns l why
 turns l table (push t p) why = push-turns l t table p why
@@ -272,3 +293,4 @@ turns l table (token t q) why = token-turns l t table q why
 turns l table (resource t q) why = resource-turns l t q why
 turns l table (sweep t) why = sweep-turns l t why
 turns l table (pending t p out) why = pending-turns l t p out why
+turns l table (introspect t v out) why = introspect-turns l t v out why

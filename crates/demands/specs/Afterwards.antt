@@ -14,8 +14,8 @@ use Rattle.ledger.specs.Sweep.{freedOf}
 use Rattle.ledger.specs.declared.state.State.the-variants.{Free, Pushed, Consented, Redeemed}
 use Rattle.desk.specs.Limits.{outputLeast}
 use Rattle.desk.specs.Requests.{PushRequest, DecideRequest, TokenRequest, ResourceRequest}
+use Rattle.call_laws.specs.Conditions.{FirstFree, StandsAt, TokenAt, TextFor}
 use Rattle.desk.specs.Requests.{PendingRequest}
-use Rattle.call_laws.specs.Conditions.{FirstFree, StandsAt, TokenAt}
 use Rattle.demands.specs.Layout.{clockBytes, nextBytes, stateByte, lengthByte, scopeBytes, grantBytes, expiryBytes, holderBytes, byte, fourBytes, eightBytes, valueLong, keyLong}
 use Rattle.demands.specs.Calls.{Left}
 
@@ -150,3 +150,11 @@ pub record AfterPending (l : List ℕ) (p : PendingRequest) (out : List ℕ) (a 
   pub ledger-is : a .ledger ≡ l
   pub answer-is : a .beside ≡ grant (rec l k) ∷ 0 ∷ scope (rec l k) ∷ expiry (rec l k) ∷ redirectLength (rec l k) ∷ []
   pub output-is : a .output ≡ redirect (rec l k) ++ (blank (outputLeast - redirectLength (rec l k)) ++ drop outputLeast out)
+
+-- "The ledger is only read, clock included. The answer is the number and the text's length; bytes behind the text stay." (document 02, Q-1)
+pub record AfterIntrospect (l : List ℕ) (t : ℕ) (v out : List ℕ) (a : Left) : Type 0 where
+  pub text : List ℕ
+  pub text-is : TextFor l t v text
+  pub ledger-stays : a .ledger ≡ l
+  pub answer-is : a .beside ≡ length text ∷ []
+  pub output-is : a .output ≡ text ++ drop (length text) out

@@ -1,4 +1,4 @@
--- The six calls, and pending beside them: their answers, their checks in order, and what each does (demands 1 and 2).
+-- The six calls, and the two beside them that only read: their answers, their checks in order, and what each does (demands 1 and 2).
 pub mod Limits
 pub mod Answers
 pub mod Checks
@@ -11,4 +11,5 @@ pub mod Token
 pub mod Resource
 pub mod Sweep
 pub mod Pending
+pub mod Introspect
 pub mod Tests
