@@ -186,7 +186,7 @@ module _ (l : List ℕ) (t : ℕ) (v : List ℕ) where
       go (yes h) = absurd (true≢false (sym (at-live ok k x h) ∙ n))
       go (no h) = omega (arith, h)
 
-  text-by : (b : Bool) → isLive l t v ≡ b → textFor l t v ≡ cond b (liveText (describes (shown l v))) inactiveText
+  pub text-by : (b : Bool) → isLive l t v ≡ b → textFor l t v ≡ cond b (liveText (describes (shown l v))) inactiveText
   unfolding textFor
   text-by b e = rw e
 
