@@ -1,7 +1,7 @@
 -- What stands behind a live text.
 use Prim.Native.Nat.{ℕ}
-use mathlib.Core.Path.{_≡_, refl, sym, ap, _∙_}
-use mathlib.Core.Bool.{Bool, true, false}
+use mathlib.Core.Path.{_≡_, _∙_}
+use mathlib.Core.Bool.{true}
 use mathlib.Core.List.{List}
 use Rattle.description.specs.Description.{Description}
 use Rattle.desk.specs.Answers.{done}
@@ -10,12 +10,15 @@ use Rattle.desk.specs.Resource.{tokenPlace}
 use Rattle.call_laws.specs.Live.{ownRequest}
 use Rattle.call_laws.proofs.Rows.{resource-passed}
 use Rattle.call_laws.proofs.Facts.{resource-facts}
-use Rattle.call_laws.proofs.Living.{own-granted}
-use Rattle.history.specs.Events.{Event}
-use Rattle.history.specs.Introspected.{Behind}
+use Rattle.call_laws.proofs.Living.{own-granted, described-live, described-own}
+use Rattle.history.specs.Runs.{started, lastIn}
+use Rattle.history.specs.Events.{Event, eventsIn}
+use Rattle.history.specs.Introspected.{Behind, EveryText}
 use Rattle.history.proofs.Effects.{Reads, reads}
+use Rattle.history.proofs.Runs.{good-start, good-last}
 use Rattle.history.proofs.Links.{Inv}
 use Rattle.history.proofs.Readings.{read-chain, read-client}
+use Rattle.history.proofs.Demand3.{kept-run}
 
 module _ (l : List ℕ) (es : List Event) (inv : Inv l es) (t : ℕ) (v out : List ℕ) (ok : (introspect l t v out) .answer .number ≡ done) (e : isLive l t v ≡ true) where
   abbrev own : Description
@@ -39,3 +42,12 @@ module _ (l : List ℕ) (es : List Event) (inv : Inv l es) (t : ℕ) (v out : Li
         consented-by = chain .same-client .0 ∙ by;
         redeemed-by = chain .same-client .1 ∙ by;
       }
+
+-- a live text is of the record alone
+pub every-text : EveryText
+every-text n a b cs y t v out d f ok e =
+    let good = good-start n a b in
+    let l = lastIn n cs in
+    let bytes = good-last cs (started n) good y .bytes in
+    rw (described-own l t v out d bytes f ok e)
+    (own-behind l (eventsIn n cs) (kept-run n good cs y .inv) t v out ok (described-live l t v out d bytes f ok e))
