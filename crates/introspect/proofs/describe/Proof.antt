@@ -1,5 +1,5 @@
 use Prim.Native.Nat.{ℕ}
-use Rattle.description.specs.Description.{Description, described, liveText, inactiveText}
+use Rattle.description.specs.Description.{described, liveText, inactiveText}
 use Rattle.description.specs.Writing.{written, writtenOver}
 use Rattle.description.specs.declared.Written.{Written}
 use Rattle.desk.specs.Introspect.{describes, shown, textFor}

@@ -13,7 +13,7 @@ use Rattle.introspect.proofs.Texts.{short-told, short-stays, long-told,
 use Rattle.introspect.proofs.introspect.Statement.{statement}
 use Rattle.ledger.proofs.Tests.{sound-told, time-told}
 use borrow.Author.Needs.{needs}
-use mathlib.Core.Bool.{true, false, not}
+use mathlib.Core.Bool.{true, not}
 use mathlib.Core.List.{List}
 use mathlib.Core.Path.{_≡_, refl, sym, ap, _∙_}
 use Rattle.introspect.proofs.introspect.Tie as tie
