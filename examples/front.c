@@ -1,7 +1,7 @@
 /*
  * One grant from C, with the ledger in a file: front LEDGER-FILE
  *
- * Start, table, push, decide, token, a reading, and the code a second time. What a web front would get from TLS, from the login and
+ * Start, table, push, what she sees, decide, token, a reading, what a figure server is told, and the code a second time. What a web front would get from TLS, from the login and
  * from its random source is made up here, and says so. docs/FRONT.md has the rules that this keeps to.
  */
 #define _POSIX_C_SOURCE 200809L
@@ -175,6 +175,17 @@ static void push(store *s, const uint8_t *table, const uint8_t reference[32]) {
            (unsigned long long)(a.expiry - s->time), text);
 }
 
+/* The request that the manager is to see. Nothing changes, so nothing is stored. */
+static void show(store *s, const uint8_t reference[32]) {
+    perdigolh_decided d;
+    uint8_t output[PERDIGOLH_OUTPUT_LEAST];
+    take_started(s);
+    d = perdigolh_pending(s->bytes, sizeof s->bytes, s->time, reference, buyer, output, sizeof output);
+    close(s->locked);
+    printf("pending: %u, grant %llu, scope %u, for %.*s\n", d.answer.number, (unsigned long long)d.answer.grant,
+           (unsigned)d.answer.scope, (int)d.length, (const char *)output);
+}
+
 static void decide(store *s, const uint8_t reference[32], const uint8_t code[32]) {
     perdigolh_decided d;
     uint8_t output[PERDIGOLH_OUTPUT_LEAST];
@@ -202,6 +213,16 @@ static void resource(store *s, const uint8_t token[32]) {
     printf("resource: %u, grant %llu, holder %llu\n", a.number, (unsigned long long)a.grant, (unsigned long long)a.holder);
 }
 
+/* What a figure server that asks about the token is told. */
+static void introspect(store *s, const uint8_t token[32]) {
+    perdigolh_introspected i;
+    uint8_t output[PERDIGOLH_TEXT_MOST];
+    take_started(s);
+    i = perdigolh_introspect(s->bytes, sizeof s->bytes, s->time, token, output, sizeof output);
+    close(s->locked);
+    printf("introspect: %u, %.*s..\n", i.number, (int)(i.length < 29 ? i.length : 29), (const char *)output);
+}
+
 int main(int count, char **words) {
     static store s;
     uint8_t table[PERDIGOLH_TABLE_BYTES(1)], reference[32], code[32], token[32], another[32];
@@ -220,11 +241,13 @@ int main(int count, char **words) {
     start(&s);
     draw(reference);
     push(&s, table, reference);
+    show(&s, reference);
     draw(code);
     decide(&s, reference, code);
     draw(token);
     redeem(&s, table, code, token);
     resource(&s, token);
+    introspect(&s, token);
     draw(another);
     redeem(&s, table, code, another); /* the code a second time: 15 */
     return 0;

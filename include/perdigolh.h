@@ -1,5 +1,6 @@
 /*
- * Perdigolh, the permissions desk, for a web front: the six calls of document 01, from C or any language that can call C.
+ * Perdigolh, the permissions desk, for a web front: the six calls of document 01, and two that only read, from C or any language that
+ * can call C.
  *
  * Link target/staticlib/libfront.a, which `rt staticlib front` writes once every contract is proved (x86-64 Linux), or what
  * `make install` put in its place. docs/FRONT.md has a whole front's duties, docs/OUTSIDE.md what to answer outside for each number,
@@ -13,10 +14,10 @@
  * - It allocates nothing, keeps no pointer, has no state of its own and calls nothing outside the archive but the C library's
  *   memory functions.
  * - No pointer is NULL, not even with length 0. Lengths are in bytes. A pointer to an array, `client[16]`, has that many bytes.
- *   The ledger, and the output of decide, are lent to be written and overlap nothing else that is lent; all else is only read.
+ *   What is lent without `const`, the ledger and an output, overlaps nothing else that is lent; all else is only read.
  *   This is what a C compiler cannot check, and what the front owes.
- * - One ledger has one writer: no two calls on one ledger at a time. Between the calls nobody else writes to it. docs/FRONT.md says
- *   how to keep it in a file, and why an answer is given out only once the ledger it left is stored.
+ * - One ledger has one writer: no two calls on one ledger at a time, but for the two that only read. Between the calls nobody else
+ *   writes to it. docs/FRONT.md says how to keep it in a file, and why an answer is given out only once the ledger it left is stored.
  * - Bytes of a struct that belong to no field hold nothing: compare fields, not memory.
  *
  * Numbers in the ledger and in the table are big-endian; those in arguments and answers are the machine's own.
@@ -67,6 +68,7 @@ __attribute__((used)) static uint32_t (*const perdigolh_interface_asked)(void) =
 #define PERDIGOLH_CHALLENGE_LENGTH 43
 #define PERDIGOLH_VERIFIER_LEAST 43
 #define PERDIGOLH_VERIFIER_MOST 128
+#define PERDIGOLH_TEXT_MOST 304 /* of what introspect writes; an output of so many bytes is never too short */
 
 /* The bytes of a ledger with this many records, and of a table with this many clients. */
 #define PERDIGOLH_LEDGER_BYTES(records) (PERDIGOLH_LEDGER_HEAD + (size_t)(records) * PERDIGOLH_LEDGER_RECORD)
@@ -106,7 +108,7 @@ enum perdigolh_number {
     PERDIGOLH_NO_TOKEN = 17,         /* no record in state 3 with this token */
     PERDIGOLH_KEY_DIFFERS = 18,      /* presented key differs from the bound key */
     PERDIGOLH_HOLDER_DIFFERS = 19,   /* holder asked is not the record's holder */
-    PERDIGOLH_OUTPUT_SHORT = 20      /* output buffer shorter than 64 bytes */
+    PERDIGOLH_OUTPUT_SHORT = 20      /* output buffer shorter than 64 bytes (decide, pending) or than the text (introspect) */
 };
 
 /* What push, token and resource answer, as the record has it after the call. */
@@ -118,7 +120,7 @@ typedef struct perdigolh_answer {
     uint64_t expiry; /* the first second at which the record is expired */
 } perdigolh_answer;
 
-/* What decide answers. After a no: the grant number, the holder given, scope 0, expiry 0. */
+/* What decide answers. After a no: the grant number, the holder given, scope 0, expiry 0. What pending answers, with holder 0. */
 typedef struct perdigolh_decided {
     perdigolh_answer answer;
     uint8_t length; /* bytes of the redirect at the front of the output, on yes and on no */
@@ -132,11 +134,21 @@ typedef struct perdigolh_swept {
     size_t redeemed;
 } perdigolh_swept;
 
+/* What introspect answers: how many bytes at the front of the output are the text. */
+typedef struct perdigolh_introspected {
+    uint8_t number;
+    size_t length;
+} perdigolh_introspected;
+
 /* The layout that the archive was built with; a compiler that lays a struct out otherwise stops here. */
 #if defined(__cplusplus)
-static_assert(sizeof(perdigolh_answer) == 40 && sizeof(perdigolh_decided) == 48 && sizeof(perdigolh_swept) == 32, "interface 1");
+static_assert(sizeof(perdigolh_answer) == 40 && sizeof(perdigolh_decided) == 48 && sizeof(perdigolh_swept) == 32 &&
+                  sizeof(perdigolh_introspected) == 16,
+              "interface 1");
 #elif defined(__STDC_VERSION__) && __STDC_VERSION__ >= 201112L
-_Static_assert(sizeof(perdigolh_answer) == 40 && sizeof(perdigolh_decided) == 48 && sizeof(perdigolh_swept) == 32, "interface 1");
+_Static_assert(sizeof(perdigolh_answer) == 40 && sizeof(perdigolh_decided) == 48 && sizeof(perdigolh_swept) == 32 &&
+                   sizeof(perdigolh_introspected) == 16,
+               "interface 1");
 #endif
 
 /*
@@ -248,6 +260,34 @@ perdigolh_answer perdigolh_resource(uint8_t *ledger, size_t ledger_length, uint6
  * Answer:  the records freed, by the state that they were in.
  */
 perdigolh_swept perdigolh_sweep(uint8_t *ledger, size_t ledger_length, uint64_t time);
+
+/*
+ * Pending: the request that the holder is to see before she decides. It decides nothing.
+ *
+ * Lent:    the ledger, to be read; the time; the reference and the client id that the browser brought; an output of at least 64 bytes.
+ * Changed: the first 64 bytes of the output, where the redirect goes, with zeros behind it; later bytes stay. The ledger stays as it
+ *          is, its clock included.
+ * Checks, in order: 1, 2, 20, 10, 11: decide's, as far as they are about the request.
+ * Answer:  the grant number, holder 0, the scope that she would allow, the expiry of the reference; the redirect's length. On the
+ *          ledger as it is, a decide on this reference is about this grant number and this redirect, and a yes allows this scope.
+ */
+perdigolh_decided perdigolh_pending(const uint8_t *ledger, size_t ledger_length, uint64_t time, const uint8_t reference[32],
+                                    const uint8_t client[16], uint8_t *output, size_t output_length);
+
+/*
+ * Introspect: what a token stands for, as the JSON text of RFC 7662, for the figure servers (document 02, Q-1).
+ *
+ * Lent:    the ledger, to be read; the time; the token; an output.
+ * Changed: the front of the output, where the text goes, without a zero behind it; later bytes stay. The ledger stays as it is, its
+ *          clock included.
+ * Checks, in order: 1, 2, 20. An output of PERDIGOLH_TEXT_MOST bytes is never too short.
+ * Checked by the front before: that who asks is one of the scheme's figure servers.
+ * Answer:  the text's length. A token that is unknown or expired is no refusal: its text is {"active":false}. Else the text is
+ *          {"active":true,"client_id":"..","sub":"7","exp":1320,"scope":"s0 s2","cnf":{"x5t#S256":".."}}
+ *          with the client id in 32 hexadecimal digits, the holder, the expiry, the names of the scope's bits, the bound key in base64url.
+ */
+perdigolh_introspected perdigolh_introspect(const uint8_t *ledger, size_t ledger_length, uint64_t time, const uint8_t token[32],
+                                            uint8_t *output, size_t output_length);
 
 #ifdef __cplusplus
 }

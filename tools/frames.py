@@ -38,7 +38,7 @@ WORDS = {
     17: "no record in state 3 with this token",
     18: "presented key differs from the bound key",
     19: "holder asked is not the record's holder",
-    20: "output buffer shorter than 64 bytes",
+    20: "output buffer shorter than 64 bytes (decide, pending) or than the text (introspect)",
     0xff: "no frame",
 }
 

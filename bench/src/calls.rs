@@ -1,8 +1,8 @@
-//! The six calls of both programs under names of their own, so that each can be counted; and a prepared request for each.
+//! The calls of both programs under names of their own, so that each can be counted; and a prepared request for each.
 
 use front_tests::beside::{Kind, Request};
 use front_tests::chance::Chance;
-use perdigolh::raw;
+use perdigolh::{raw, TEXT_MOST};
 use second::base64url::s256;
 use second::desk;
 use second::ledger::{field::*, head, state, Record};
@@ -32,14 +32,14 @@ pub fn prepared(kind: Kind, used: usize) -> Request {
     for place in 0..before {
         let about = place + 1 == before;
         let state = match kind {
-            Kind::Decide if about => state::PUSHED,
+            Kind::Decide | Kind::Pending if about => state::PUSHED,
             Kind::Token if about => state::CONSENTED,
             _ => state::REDEEMED,
         };
         last = record(state, place as u64 + 1, &own[..16], &mut chance);
         *second::ledger::record_mut(&mut ledger, place) = last;
     }
-    let value = if kind == Kind::Resource { TOKEN } else { VALUE };
+    let value = if matches!(kind, Kind::Resource | Kind::Introspect) { TOKEN } else { VALUE };
     Request {
         kind,
         time: if kind == Kind::Sweep { EXPIRY } else { NOW },
@@ -54,7 +54,7 @@ pub fn prepared(kind: Kind, used: usize) -> Request {
         challenge: s256(VERIFIER).to_vec(),
         redirect: REDIRECT_TEXT.to_vec(),
         verifier: VERIFIER.to_vec(),
-        output: vec![0; 64],
+        output: vec![0; TEXT_MOST],
         ledger,
         table,
     }
@@ -94,6 +94,7 @@ fn record(state: u8, grant: u64, client: &[u8], chance: &mut Chance) -> Record {
 pub fn archive(r: &mut Request) -> u8 {
     let (ledger, length) = (r.ledger.as_mut_ptr(), r.ledger.len());
     let (table, table_length) = (r.table.as_ptr(), r.table.len());
+    let (output, output_length) = (r.output.as_mut_ptr(), r.output.len());
     // SAFETY: every pointer is that of a buffer of its own.
     unsafe {
         match r.kind {
@@ -117,7 +118,6 @@ pub fn archive(r: &mut Request) -> u8 {
                 .number
             }
             Kind::Decide => {
-                let (output, output_length) = (r.output.as_mut_ptr(), r.output.len());
                 raw::perdigolh_decide(
                     ledger,
                     length,
@@ -154,6 +154,13 @@ pub fn archive(r: &mut Request) -> u8 {
                 raw::perdigolh_resource(ledger, length, r.time, &r.value, &r.presented, r.scope, r.holder).number
             }
             Kind::Sweep => raw::perdigolh_sweep(ledger, length, r.time).number,
+            Kind::Pending => {
+                let shown = raw::perdigolh_pending(ledger, length, r.time, &r.value, &r.client, output, output_length);
+                shown.answer.number
+            }
+            Kind::Introspect => {
+                raw::perdigolh_introspect(ledger, length, r.time, &r.value, output, output_length).number
+            }
         }
     }
 }
@@ -168,6 +175,8 @@ pub fn twin(r: &mut Request) -> u8 {
         Kind::Token => second_token(r),
         Kind::Resource => second_resource(r),
         Kind::Sweep => second_sweep(r),
+        Kind::Pending => second_pending(r),
+        Kind::Introspect => second_introspect(r),
     }
 }
 
@@ -208,4 +217,16 @@ fn second_resource(r: &mut Request) -> u8 {
 #[inline(never)]
 fn second_sweep(r: &mut Request) -> u8 {
     desk::sweep(&mut r.ledger, r.time).number
+}
+
+#[no_mangle]
+#[inline(never)]
+fn second_pending(r: &mut Request) -> u8 {
+    desk::pending(&r.ledger, r.time, &r.client, &r.value, &mut r.output).answer.number
+}
+
+#[no_mangle]
+#[inline(never)]
+fn second_introspect(r: &mut Request) -> u8 {
+    desk::introspect(&r.ledger, r.time, &r.value, &mut r.output).number
 }

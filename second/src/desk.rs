@@ -1,6 +1,8 @@
-//! The six calls. Each checks for itself all that it reads, in document 01's order; a refusal changes nothing.
+//! The six calls of document 01, and two that only read: introspect (document 02, Q-1) and pending.
+//! Each checks for itself all that it reads, in its list's order; a refusal changes nothing.
 
 use crate::base64url::s256;
+use crate::description;
 use crate::form;
 use crate::ledger::{self, field::*, head, state, Record};
 use crate::limits::form::OUTPUT_BYTES;
@@ -47,7 +49,7 @@ pub struct Answer {
     pub expiry: u64,
 }
 
-/// What decide answers.
+/// What decide answers, and pending, of the request as it waits.
 #[derive(Clone, Copy, Debug, Default, PartialEq, Eq)]
 pub struct Decided {
     pub answer: Answer,
@@ -61,6 +63,13 @@ pub struct Swept {
     pub pushed: u16,
     pub consented: u16,
     pub redeemed: u16,
+}
+
+/// What introspect answers: its number, and how many bytes at the front of the output are the text.
+#[derive(Clone, Copy, Debug, Default, PartialEq, Eq)]
+pub struct Introspected {
+    pub number: u8,
+    pub length: usize,
 }
 
 impl Answer {
@@ -90,6 +99,12 @@ impl From<Refusal> for Decided {
 impl From<Refusal> for Swept {
     fn from(refusal: Refusal) -> Self {
         Swept { number: refusal as u8, ..Swept::default() }
+    }
+}
+
+impl From<Refusal> for Introspected {
+    fn from(refusal: Refusal) -> Self {
+        Introspected { number: refusal as u8, ..Introspected::default() }
     }
 }
 
@@ -156,12 +171,7 @@ pub fn decide(
     let mut call = || -> Result<Decided, Refusal> {
         check_ledger(ledger, now)?;
         ensure(output.len() >= OUTPUT_BYTES, Refusal::OutputShort)?;
-        let place = find(ledger, |record| {
-            record[STATE] == state::PUSHED
-                && record[VALUE] == *reference
-                && record[CLIENT] == *client
-        });
-        let place = place.ok_or(Refusal::ReferenceUnknown)?;
+        let place = waiting(ledger, client, reference).ok_or(Refusal::ReferenceUnknown)?;
         check_alive(ledger, place, now)?;
         ensure(holder != 0, Refusal::HolderZero)?;
         if yes {
@@ -237,9 +247,7 @@ pub fn resource(
 ) -> Answer {
     let mut call = || -> Result<Answer, Refusal> {
         check_ledger(ledger, now)?;
-        let place =
-            find(ledger, |record| record[STATE] == state::REDEEMED && record[TOKEN] == *token);
-        let place = place.ok_or(Refusal::TokenUnknown)?;
+        let place = issued(ledger, token).ok_or(Refusal::TokenUnknown)?;
         check_alive(ledger, place, now)?;
         let record = ledger::record(ledger, place);
         let granted = Answer::of(record);
@@ -271,6 +279,42 @@ pub fn sweep(ledger: &mut [u8], now: u64) -> Swept {
         }
     }
     swept
+}
+
+/// The request that the holder is to see: checks 1, 2, 20, 10, 11, in decide's order.
+pub fn pending(
+    ledger: &[u8],
+    now: u64,
+    client: &[u8; 16],
+    reference: &[u8; 32],
+    output: &mut [u8],
+) -> Decided {
+    let mut call = || -> Result<Decided, Refusal> {
+        check_ledger(ledger, now)?;
+        ensure(output.len() >= OUTPUT_BYTES, Refusal::OutputShort)?;
+        let place = waiting(ledger, client, reference).ok_or(Refusal::ReferenceUnknown)?;
+        check_alive(ledger, place, now)?;
+
+        let record = ledger::record(ledger, place);
+        output[..OUTPUT_BYTES].copy_from_slice(&record[REDIRECT]);
+        Ok(Decided { answer: Answer::of(record), redirect_length: record[REDIRECT_LENGTH] })
+    };
+    call().unwrap_or_else(Decided::from)
+}
+
+/// The text of a token at a time: checks 1, 2, then 20 where the output is shorter than the text.
+pub fn introspect(ledger: &[u8], now: u64, token: &[u8; 32], output: &mut [u8]) -> Introspected {
+    let mut call = || -> Result<Introspected, Refusal> {
+        check_ledger(ledger, now)?;
+        let record = issued(ledger, token).map(|place| ledger::record(ledger, place));
+        let live = record.filter(|record| !ledger::expired(record, now));
+        let text = live.map_or_else(|| description::INACTIVE.to_owned(), description::of);
+        ensure(output.len() >= text.len(), Refusal::OutputShort)?;
+
+        output[..text.len()].copy_from_slice(text.as_bytes());
+        Ok(Introspected { number: DONE, length: text.len() })
+    };
+    call().unwrap_or_else(Introspected::from)
 }
 
 fn ensure(holds: bool, refusal: Refusal) -> Result<(), Refusal> {
@@ -308,6 +352,18 @@ fn within(scope: u32, bits: u32) -> bool {
 
 fn find(ledger: &[u8], wanted: impl Fn(&Record) -> bool) -> Option<usize> {
     ledger::records(ledger).position(wanted)
+}
+
+/// The record in state 1 with this reference and client id.
+fn waiting(ledger: &[u8], client: &[u8; 16], reference: &[u8; 32]) -> Option<usize> {
+    find(ledger, |record| {
+        record[STATE] == state::PUSHED && record[VALUE] == *reference && record[CLIENT] == *client
+    })
+}
+
+/// The record in state 3 with this token.
+fn issued(ledger: &[u8], token: &[u8; 32]) -> Option<usize> {
+    find(ledger, |record| record[STATE] == state::REDEEMED && record[TOKEN] == *token)
 }
 
 fn set_clock(ledger: &mut [u8], now: u64) {

@@ -1,7 +1,8 @@
-//! The independent second program: the permissions desk of document 01 in plain Rust.
-//! Written from document 01 alone and resting on the standard library alone; the proved desk is compared with it.
+//! The independent second program: the permissions desk of documents 01 and 02 in plain Rust.
+//! Written from the documents alone and resting on the standard library alone; the proved desk is compared with it.
 
 pub mod base64url;
+pub mod description;
 pub mod desk;
 pub mod form;
 pub mod ledger;

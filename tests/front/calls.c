@@ -1,4 +1,4 @@
-/* Whole grants and every refusal from C; the numbers expected are document 01's. Guards stand around all that is lent.
+/* Whole grants and every refusal from C; the numbers expected are the documents'. Guards stand around all that is lent.
  * The last line is the tally. */
 #include "guard.h"
 #include "perdigolh.h"
@@ -119,6 +119,55 @@ static perdigolh_swept sweep(uint64_t time) {
     perdigolh_swept s = perdigolh_sweep(lent(ledger), ledger.length, time);
     stand();
     return s;
+}
+
+/* The calls that only read: the ledger must be afterwards what it was. */
+
+static uint8_t *read_only_before;
+
+static void read_begins(void) {
+    read_only_before = memcpy(malloc(ledger.length + 1), lent(ledger), ledger.length);
+}
+
+static void read_ends(void) {
+    if (memcmp(read_only_before, lent(ledger), ledger.length) != 0) {
+        fprintf(stderr, "a call that only reads wrote to the ledger\n");
+        abort();
+    }
+    free(read_only_before);
+}
+
+static perdigolh_decided pending(request r) {
+    lending l = lend(&r);
+    read_begins();
+    perdigolh_decided d =
+        perdigolh_pending(lent(ledger), ledger.length, r.time, lent(l.value), lent(l.client), lent(output), output.length);
+    read_ends();
+    give_back(l, &r);
+    return d;
+}
+
+static perdigolh_answer unseen(request r) {
+    perdigolh_decided d = pending(r);
+    EXPECT(d.length == 0);
+    return d.answer;
+}
+
+static perdigolh_introspected introspect(request r) {
+    lending l = lend(&r);
+    read_begins();
+    perdigolh_introspected i = perdigolh_introspect(lent(ledger), ledger.length, r.time, lent(l.value), lent(output), output.length);
+    read_ends();
+    give_back(l, &r);
+    return i;
+}
+
+/* The same where it is refused, as an answer of zeros. */
+static perdigolh_answer untold(request r) {
+    perdigolh_introspected i = introspect(r);
+    perdigolh_answer a = {i.number, 0, 0, 0, 0};
+    EXPECT(i.length == 0);
+    return a;
 }
 
 static int is(perdigolh_answer a, uint64_t grant, uint64_t by, uint32_t scope, uint64_t expiry) {
@@ -346,6 +395,98 @@ static void sweep_refused(void) {
     EXPECT(s.number == PERDIGOLH_LEDGER_UNSOUND && s.pushed == 0 && s.consented == 0 && s.redeemed == 0);
 }
 
+/* What pending shows is what decide then allows. */
+static void shown(void) {
+    begin(2);
+    push(in_order(1000, 0, REFERENCE));
+    perdigolh_decided d = pending(in_order(1010, REFERENCE, 0));
+    EXPECT(is(d.answer, 1, 0, 4, 1599));
+    EXPECT(d.length == 9 && memcmp(lent(output), "https://a\0", 10) == 0);
+    EXPECT(lent(output)[63] == 0 && lent(output)[64] == 0xcc && lent(output)[69] == 0xcc);
+    EXPECT(lent(ledger)[7] == (1000 & 0xff)); /* the clock */
+    perdigolh_decided then = decide(in_order(1010, REFERENCE, CODE));
+    EXPECT(then.answer.grant == d.answer.grant && then.answer.scope == d.answer.scope && then.length == d.length);
+    REFUSED(unseen(in_order(1010, CODE, 0)), PERDIGOLH_NO_REFERENCE);
+}
+
+static void pending_refused(void) {
+    begin(2);
+    push(in_order(1000, 0, REFERENCE));
+    request r;
+    REFUSED(unseen(in_order(999, REFERENCE, 0)), PERDIGOLH_TIME_WRONG);
+    REFUSED(unseen(in_order((uint64_t)1 << 40, REFERENCE, 0)), PERDIGOLH_TIME_WRONG);
+    REFUSED(unseen(in_order(1599, CODE, 0)), PERDIGOLH_NO_REFERENCE);
+    r = in_order(1599, REFERENCE, 0), memset(r.client, 0xb1, 16);
+    REFUSED(unseen(r), PERDIGOLH_NO_REFERENCE);
+    REFUSED(unseen(in_order(1599, REFERENCE, 0)), PERDIGOLH_RECORD_EXPIRED);
+    EXPECT(is(pending(in_order(1598, REFERENCE, 0)).answer, 1, 0, 4, 1599));
+    guard_end(output);
+    output = guard_new(PERDIGOLH_OUTPUT_LEAST - 1);
+    REFUSED(unseen(in_order(1599, CODE, 0)), PERDIGOLH_OUTPUT_SHORT);
+    guard_end(output);
+    output = guard_new(0);
+    REFUSED(unseen(in_order(999, REFERENCE, 0)), PERDIGOLH_TIME_WRONG);
+    REFUSED(unseen(in_order(1598, REFERENCE, 0)), PERDIGOLH_OUTPUT_SHORT);
+    lent(ledger)[0] = 1;
+    REFUSED(unseen(in_order(999, REFERENCE, 0)), PERDIGOLH_LEDGER_UNSOUND);
+}
+
+/* An output of so many bytes, each of them marked. */
+static void room(size_t bytes) {
+    guard_end(output);
+    output = guard_new(bytes);
+    memset(lent(output), 0xcc, bytes);
+}
+
+/* A text at the front of the output, and marks behind it. */
+static int told(perdigolh_introspected i, const char *text) {
+    int same = i.number == PERDIGOLH_DONE && i.length == strlen(text) && memcmp(lent(output), text, i.length) == 0;
+    for (size_t k = i.length; k < output.length; k++) {
+        same = same && lent(output)[k] == 0xcc;
+    }
+    return same;
+}
+
+/* The text of the grant above at 1059: its key, 0xee 32 times, in base64url. */
+#define LIVE                                                                                                                     \
+    "{\"active\":true,\"client_id\":\"a1a1a1a1a1a1a1a1a1a1a1a1a1a1a1a1\",\"sub\":\"7\",\"exp\":1359,\"scope\":\"s2\","                     \
+    "\"cnf\":{\"x5t#S256\":\"7u7u7u7u7u7u7u7u7u7u7u7u7u7u7u7u7u7u7u7u7u4\"}}"
+#define INACTIVE "{\"active\":false}"
+
+static void described(void) {
+    begin(2);
+    push(in_order(1000, 0, REFERENCE));
+    decide(in_order(1000, REFERENCE, CODE));
+    room(PERDIGOLH_TEXT_MOST);
+    EXPECT(told(introspect(in_order(1059, CODE, 0)), INACTIVE));
+    token(in_order(1059, CODE, TOKEN));
+    room(PERDIGOLH_TEXT_MOST);
+    EXPECT(told(introspect(in_order(1358, TOKEN, 0)), LIVE));
+    room(sizeof LIVE - 1);
+    EXPECT(told(introspect(in_order(1059, TOKEN, 0)), LIVE));
+    room(PERDIGOLH_TEXT_MOST);
+    EXPECT(told(introspect(in_order(1359, TOKEN, 0)), INACTIVE));
+    room(sizeof INACTIVE - 1);
+    EXPECT(told(introspect(in_order(1059, REFERENCE, 0)), INACTIVE));
+}
+
+static void introspect_refused(void) {
+    begin(2);
+    push(in_order(1000, 0, REFERENCE));
+    decide(in_order(1000, REFERENCE, CODE));
+    token(in_order(1059, CODE, TOKEN));
+    room(sizeof LIVE - 2);
+    REFUSED(untold(in_order(1059, TOKEN, 0)), PERDIGOLH_OUTPUT_SHORT);
+    room(sizeof INACTIVE - 2);
+    REFUSED(untold(in_order(1359, TOKEN, 0)), PERDIGOLH_OUTPUT_SHORT);
+    room(0);
+    REFUSED(untold(in_order(1059, CODE, 0)), PERDIGOLH_OUTPUT_SHORT);
+    REFUSED(untold(in_order(1058, TOKEN, 0)), PERDIGOLH_TIME_WRONG);
+    REFUSED(untold(in_order((uint64_t)1 << 40, TOKEN, 0)), PERDIGOLH_TIME_WRONG);
+    lent(ledger)[PERDIGOLH_LEDGER_HEAD + 2] = 1;
+    REFUSED(untold(in_order(1058, TOKEN, 0)), PERDIGOLH_LEDGER_UNSOUND);
+}
+
 int main(void) {
     ledger = guard_new(0), table = guard_new(0), output = guard_new(0);
     started();
@@ -357,6 +498,10 @@ int main(void) {
     token_refused();
     resource_refused();
     sweep_refused();
+    shown();
+    pending_refused();
+    described();
+    introspect_refused();
     printf("%d passed, %d failed\n", passed, failed);
     return failed != 0;
 }

@@ -15,7 +15,7 @@ sys.dont_write_bytecode = True
 from sources import TOP, tally  # noqa: E402
 
 NUMBERS = {"u8": "uint8_t", "u32": "uint32_t", "u64": "uint64_t", "usize": "size_t"}
-STRUCTS = ("Answer", "Decided", "Swept")
+STRUCTS = ("Answer", "Decided", "Swept", "Introspected")
 REPR_C = r"#\[repr\(C\)\]\s*pub struct (\w+) \{([^}]*)\}"
 # each size and lifetime: its name in the header, in the bindings, and the file and name of its source
 CONSTANTS = [
@@ -136,6 +136,18 @@ def constant(path, name):
     return int(re.search(rf"pub const {word}: \w+ = (\w+);", body).group(1), 0)
 
 
+def text_most():
+    """The greatest length of a text: the sum that its definition has."""
+    def defined(path, name):
+        return " ".join(re.search(rf"^{name}(?: \w+)? =\s+(.*?)(?=\n\n|\Z)", read(f"crates/{path}"), re.M | re.S).group(1).split())
+
+    text = "description/specs/Apart.antt"
+    names = {"n": defined(text, "expiryDigits"), "decimalMost": defined("texts/specs/Decimal.antt", "decimalMost"), "scopeMost": defined("description/specs/Scope.antt", "scopeMost"),
+             "clientSize": defined(text, "clientSize"), "keySize": defined(text, "keySize")}
+    total = re.sub(r"[A-Za-z]\w*", lambda name: names[name.group()], defined(text, "mostWith")).replace("/", "//")
+    return eval(total) if re.fullmatch(r"[\d+*/() ]+", total) and defined(text, "liveMost") == "mostWith expiryDigits" else None  # numbers and signs alone
+
+
 def results():
     """Each comparison as its name, what is said and what the source says."""
     front, answers = read("crates/front/src/lib.rt"), read("crates/front/src/answer.rt")
@@ -144,8 +156,8 @@ def results():
     library = read("bindings/rust/src/lib.rs")
 
     calls = rattle_calls(front)
-    names = ("start", "push", "decide", "token", "resource", "sweep", "version", f"interface_{constant('front/src/version.rt', 'Interface::NUMBER')}")
-    yield "the source exports the six calls, version and interface", sorted(calls), sorted(f"perdigolh_{n}" for n in names)
+    names = ("start", "push", "decide", "token", "resource", "sweep", "pending", "introspect", "version", f"interface_{constant('front/src/version.rt', 'Interface::NUMBER')}")
+    yield "the source exports the calls, version and interface", sorted(calls), sorted(f"perdigolh_{n}" for n in names)
     yield "nothing else of crates/front is exported", len(re.findall("no_mangle", front + answers + read("crates/front/src/choice.rt"))), len(calls)
     for side, said in (("header", header_calls(plain)), ("bindings", raw_calls(raw))):
         yield f"{side}: the calls", sorted(said), sorted(calls)
@@ -153,18 +165,18 @@ def results():
             yield f"{side}: {name}", said.get(name), calls[name]
 
     source = structs(answers)
-    yield "the source has the three structs", sorted(source), sorted(STRUCTS)
+    yield "the source has the structs", sorted(source), sorted(STRUCTS)
     bound = structs(raw)
     declared = header_structs(plain)
     for name in STRUCTS:
         yield f"header: struct {name}", declared.get(c_type(name)), source[name]
         yield f"bindings: struct {name}", bound.get(name), source[name]
 
-    for name, path, origin in CONSTANTS:
+    for name, wanted in [(name, constant(path, origin)) for name, path, origin in CONSTANTS] + [("TEXT_MOST", text_most())]:
         said = re.search(rf"#define PERDIGOLH_{name} (\d+)", header)
-        yield f"header: {name}", said and int(said.group(1)), constant(path, origin)
+        yield f"header: {name}", said and int(said.group(1)), wanted
         said = re.search(rf"const {name}: \w+ = (\d+);", library)
-        yield f"bindings: {name}", said and int(said.group(1)), constant(path, origin)
+        yield f"bindings: {name}", said and int(said.group(1)), wanted
 
     yes = constant("front/src/choice.rt", "Choice::YES")
     for side, said in (("header", re.search(r"#define PERDIGOLH_NO (\d+)\n", header)), ("bindings", re.search(r"const NO: u8 = (\d+);", library))):
@@ -180,6 +192,9 @@ SPOILS = [
     (HEADER, "perdigolh_swept perdigolh_sweep(", "perdigolh_answer perdigolh_sweep("),
     (HEADER, "    uint64_t holder;\n    uint32_t scope;\n", "    uint32_t scope;\n    uint64_t holder;\n"),
     (HEADER, "size_t consented;", "uint32_t consented;"),
+    (HEADER, "perdigolh_pending(const uint8_t *ledger", "perdigolh_pending(uint8_t *ledger"),
+    (HEADER, "    uint8_t number;\n    size_t length;\n", "    uint8_t number;\n    uint8_t length;\n"),
+    (HEADER, "#define PERDIGOLH_TEXT_MOST 304", "#define PERDIGOLH_TEXT_MOST 303"),
     (HEADER, "#define PERDIGOLH_CODE_LIFETIME 60", "#define PERDIGOLH_CODE_LIFETIME 61"),
     (HEADER, "PERDIGOLH_YES 1", "PERDIGOLH_YES 2"),
     (HEADER, "PERDIGOLH_NO 0", "PERDIGOLH_NO 1"),
@@ -188,7 +203,9 @@ SPOILS = [
     (RAW, "verifier: *const u8", "verifier: *mut u8"),
     (RAW, "presented: *const [u8; 32],\n        code", "code: *const [u8; 32],\n        presented"),
     (RAW, "    pub expiry: u64,\n", ""),
+    (RAW, "pub fn perdigolh_introspect(\n        ledger: *const u8", "pub fn perdigolh_introspect(\n        ledger: *mut u8"),
     (LIBRARY, "TOKEN_LIFETIME: u64 = 300", "TOKEN_LIFETIME: u64 = 301"),
+    (LIBRARY, "TEXT_MOST: usize = 304", "TEXT_MOST: usize = 340"),
 ]
 
 

@@ -12,7 +12,8 @@ The forms, r being what is returned and x a buffer lent to be written:
   value   r ≡ ..                        slice   now r ≡ ..
   bytes   now (x .exit) ≡ ..            both    (r ≡ ..) × (now (x .exit) ≡ ..)
   fields  (r .a ≡ ..) × (r .b ≡ ..)     call    k r (now (x .exit)) ≡ .., k putting each of its arguments, or each field of one, into a record
-On the left stand all that is returned and every buffer lent to be written; on the right neither stands. There is no `requires`.
+On the left stand all that is returned and every buffer lent to be written; on the right neither stands. A buffer as it was at entry may stand
+on both sides. There is no `requires`.
 A second `ensures` only narrows what is allowed, so one of them has to have a form.
 """
 import re
@@ -24,6 +25,7 @@ from sources import RATTLE_COMMENT, TOP, closing, tally, without  # noqa: E402
 PAGE = "docs/OUTCOMES.md"
 BEGIN, END = "<!-- functions -->", "<!-- end -->"
 EXIT = re.compile(r"now \((\w+) \.exit\)")
+ENTRY = re.compile(r"now \(\w+ \.entry\)")  # known before the call, on whichever side it stands
 FUNCTION = re.compile(r'\bpub (extern "C" )?fn (\w+)\s*\(')
 IMPORT = re.compile(r"\buse\s+Rattle·(\w+)(?:·\w+)?\.specs\.([\w.]+)\.\{([^}]*)\}")
 
@@ -182,7 +184,7 @@ def form_of(clause, lent, returned, path, source):
         return "both", rights
     if not lent and {f"{r} .{field}" for field in fields(source, returned)} == set(lefts):
         return "fields", rights
-    rest = EXIT.sub("", lefts[0])
+    rest = ENTRY.sub("", EXIT.sub("", lefts[0]))
     heads = [w for w in re.findall(r"[^\s()]+", rest) if w != r and not w.startswith(".")]
     whole = re.search(rf"(?<![\w.]){r}(?! \.)(?!\w)", rest) or fields(source, returned) == set(re.findall(rf"\b{r} \.(\w+)", rest))
     if len(lefts) == 1 and heads and whole and all(keeps_all(path, head) for head in heads):

@@ -34,7 +34,8 @@ LISTS = {
 }
 NO_FRAME = 0xff
 UNREACHED = {9, 20}  # no line can fail these: 2^64 pushes, a short output buffer
-NAMED = ("push", "decide", "token", "resource", "sweep")
+NAMED = ("push", "decide", "token", "resource", "sweep", "pending", "introspect")
+READING = ("pending", "introspect")  # beyond document 01's six: no frames, so no plays and no streams of lines
 
 spoilt = {}  # the self-test's files
 
@@ -119,12 +120,14 @@ def results():
     for call, order in calls.items():
         remark = r"/\*(?:(?!\*/).)*?Checks[^:]*: ((?:(?!\*/).)*?)\*/\s*\w+ perdigolh_{call}\("
         yield f"the header: the checks of {call}", listed(HEADER, remark, call, r"\.|for"), order
-        yield f"the plays: {call}", plays.get(call), {0, *order}
         beside = re.search(rf"Kind::{call.capitalize()} => &\[([^\]]*)\]", read(BESIDE))
         yield f"the archive's tests: {call}", [int(n) for n in beside.group(1).split(",")], [*order, 0]
         if call != "start":
-            remark = r"/// Checks ((?:(?!/// Checks|pub fn).)*)pub fn {call}\("
+            remark = r"/// Checks ((?:(?!/// Checks|pub fn).)*)pub fn {call}[(<]"
             yield f"the bindings: the checks of {call}", listed(CALLS, remark, call, r"[;.]"), order
+        if call not in READING:
+            yield f"the plays: {call}", plays.get(call), {0, *order}
+        if call not in (*READING, "start"):
             yield f"the streams: {call}", streams.get(call), [n for n in order if n not in UNREACHED]
 
 
@@ -148,6 +151,9 @@ def faults():
         (PLAYS, '"resource": {0, 1, 2, 17, 11, 18, 6, 19}', '"resource": {0, 1, 2, 17, 11, 18, 6}'),
         (STREAMS, '"resource": [1, 2, 17, 11, 18, 6, 19]', '"resource": [1, 2, 17, 11, 6, 18, 19]'),
         (BESIDE, "Kind::Resource => &[1, 2, 17, 11, 18, 6, 19, 0]", "Kind::Resource => &[1, 2, 17, 11, 18, 6, 0]"),
+        (HEADER, "Checks, in order: 1, 2, 20, 10, 11: decide's", "Checks, in order: 1, 2, 10, 11: decide's"),
+        (CALLS, "/// Checks 1, 2, 20; then the front", "/// Checks 1, 20, 2; then the front"),
+        (BESIDE, "Kind::Pending => &[1, 2, 20, 10, 11, 0]", "Kind::Pending => &[1, 2, 20, 11, 10, 0]"),
     ]:
         yield f"{path}: {new}", path, read(path).replace(old, new, 1)
 

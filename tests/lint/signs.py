@@ -17,6 +17,7 @@ PAGE = "docs/READING.md"
 WORDS = {"Type", "Unit", "where", "record", "data", "module", "infixr", "infixl", "abbrev", "unfoldable", "pub", "use", "as", "mod", "let", "in", "λ",
          "now", "entry", "exit", "ensures", "requires", "ghost", "case", "if", "do"}
 SIGN = re.compile(r"[^\w\s(){}\[\]'·\"`]+|λ|\b0x")
+STRING = re.compile(r'"(?:\\.|[^"\\\n])*"')  # what a text says is no sign
 WORD = re.compile(r"(?<![\w'-])[A-Za-z][\w'-]*")
 USE = re.compile(r"^\s*(?:ghost |pub )?use\s+([^\s{;]+?)(?:\.\{([^}]*)\})?;?\s*$", re.M)
 
@@ -46,7 +47,7 @@ def found(files):
     where = {}
     for path, text in files.items():
         antt = path.endswith(".antt")
-        text = without(ANTT_SKIP if antt else RATTLE_SKIP, text)
+        text = without(STRING, without(ANTT_SKIP, text)) if antt else without(RATTLE_SKIP, text)
         pieces = [USE.sub("", text)] if antt else list(clauses(text))
         for sign in [*taken(text), *(sign for piece in pieces for sign in signs(piece)), *(re.findall(r"(?<!\S)_\w+_(?= :)", text) if antt else [])]:
             where.setdefault(sign.strip("_") or sign, path)

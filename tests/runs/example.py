@@ -15,9 +15,11 @@ PAGE, ARCHIVE = TOP / "docs/FRONT.md", TOP / "target/staticlib/libfront.a"
 RECORDS = 8
 # document 01: push 599 seconds, done is 0, the second use of a code is 15
 GRANT = """push: 0, grant {}, for 599 seconds under urn:ietf:params:oauth:request_uri:..
+pending: 0, grant {}, scope 4, for https://buyer.example/back
 decide: 0, holder 7, back to https://buyer.example/back
 token: 0, scope 4
 resource: 0, grant {}, holder 7
+introspect: 0, {{"active":true,"client_id":"a..
 token: 15, scope 0
 """
 
@@ -33,7 +35,7 @@ def commands():
 
 
 def grant(number):
-    return GRANT.format(number, number)
+    return GRANT.format(number, number, number)
 
 
 def by_the_page():

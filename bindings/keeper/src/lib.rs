@@ -44,5 +44,5 @@ pub use name::Name;
 #[cfg(feature = "postgres")]
 pub use postgres::Postgres;
 pub use replay::Replay;
-pub use requests::{Decide, Decided, Push, Pushed, Redeem, Redeemed};
+pub use requests::{Decide, Decided, Push, Pushed, Redeem, Redeemed, Shown};
 pub use step::Step;

@@ -18,6 +18,13 @@ pub struct Pushed {
     pub answer: Answer,
 }
 
+/// The request that the holder is to see, as it waits: its holder is 0.
+#[derive(Clone, Debug, PartialEq, Eq)]
+pub struct Shown {
+    pub redirect: Vec<u8>,
+    pub answer: Answer,
+}
+
 /// The holder decides. The front has checked before that `holder` has logged in and that she chose, seeing this request.
 #[derive(Clone, Copy, Debug)]
 pub struct Decide {

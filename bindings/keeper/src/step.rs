@@ -27,7 +27,7 @@ impl<'a> Step<'a> {
         self.time
     }
 
-    /// The ledger's bytes as they stand: to show the holder the request that she is to decide on, say.
+    /// The ledger's bytes as they stand.
     pub fn bytes(&self) -> &[u8] {
         &self.kept.ledger
     }
@@ -75,6 +75,19 @@ impl<'a> Step<'a> {
         let swept = Ledger::lent(&mut self.kept.ledger).sweep(self.time);
         self.note(frame::sweep(self.time), frame::swept(swept));
         swept
+    }
+
+    /// The request that the holder is to see before she decides. It changes nothing, and the journal has nothing of it.
+    pub fn pending(&mut self, request: &Pending) -> Result<crate::Shown, Refusal> {
+        let mut output = [0; OUTPUT_LEAST];
+        let shown = Ledger::lent(&mut self.kept.ledger).pending(self.time, request, &mut output)?;
+        Ok(crate::Shown { redirect: output[..shown.redirect_length].to_vec(), answer: shown.answer })
+    }
+
+    /// The text of a token for a figure server (RFC 7662). It changes nothing, and the journal has nothing of it.
+    pub fn introspect(&mut self, token: &Token) -> Result<String, Refusal> {
+        let mut output = [0; TEXT_MOST];
+        Ledger::lent(&mut self.kept.ledger).introspect(self.time, token, &mut output).map(str::to_owned)
     }
 
     /// What the step leaves to be stored. Whether it is stored is judged by the bytes, never by the number: a refusal may change

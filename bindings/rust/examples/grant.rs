@@ -21,8 +21,12 @@ fn main() -> Result<(), Refusal> {
     let pushed = ledger.push(1000, &table, &request)?;
     println!("pushed: grant {}, for the holder to see until {}", pushed.grant, pushed.expiry);
 
-    let code = Code([0x22; 32]);
     let mut output = [0; OUTPUT_LEAST];
+    let shown = ledger.pending(1005, &Pending { reference, client: buyer }, &mut output)?;
+    let back = String::from_utf8_lossy(&output[..shown.redirect_length]);
+    println!("she sees: grant {}, scope {}, and that it goes back to {back}", shown.answer.grant, shown.answer.scope);
+
+    let code = Code([0x22; 32]);
     let yes = Decide { reference, client: buyer, choice: Choice::Yes(code), holder: manager };
     let decided = ledger.decide(1010, &yes, &mut output)?;
     let back = &output[..decided.redirect_length];
@@ -38,6 +42,9 @@ fn main() -> Result<(), Refusal> {
     let reading = ledger.resource(1030, &read)?;
     println!("read: grant {} of holder {}", reading.grant, reading.holder);
     assert_eq!(reading, Answer { grant: pushed.grant, holder: manager, scope: 0b100, expiry: 1320 });
+
+    let mut text = [0; TEXT_MOST];
+    println!("a figure server is told {}", ledger.introspect(1030, &token, &mut text)?);
 
     let again = ledger.token(1040, &table, &Redeem { fresh: Token([0x44; 32]), ..redeem });
     println!("the code a second time: {}", again.unwrap_err());

@@ -1,4 +1,4 @@
-//! The permissions desk's six calls for a web front, over the archive that `rt staticlib front` writes.
+//! The permissions desk's calls for a web front, six and two that only read, over the archive that `rt staticlib front` writes.
 //!
 //! The ledger is lent: a [`Ledger`] borrows its bytes for as long as it writes to them, so that one ledger has one writer.
 //! Every call checks for itself what it reads, and ends with an answer or a [`Refusal`]; a refusal has changed nothing.
@@ -15,6 +15,7 @@
 //! ```
 
 use std::fmt;
+use std::str;
 
 mod outside;
 pub mod raw;
@@ -25,7 +26,7 @@ mod value;
 
 pub use outside::{Alarm, Call, Outside, Retry};
 pub use refusal::Refusal;
-pub use request::{Choice, Decide, Push, Read, Redeem};
+pub use request::{Choice, Decide, Pending, Push, Read, Redeem};
 pub use text::REQUEST_URI;
 pub use value::{ClientId, Code, Key, Reference, Token};
 
@@ -53,8 +54,10 @@ pub const LEDGER_MOST: usize = 200;
 /// Bytes of a client's record in the table, and the most clients.
 pub const CLIENT_SIZE: usize = 64;
 pub const TABLE_MOST: usize = 64;
-/// The fewest bytes of decide's output.
+/// The fewest bytes of decide's and pending's output.
 pub const OUTPUT_LEAST: usize = 64;
+/// The most characters of what introspect writes: an output of so many bytes is never too short.
+pub const TEXT_MOST: usize = 304;
 /// The fewest and the most characters of a redirect and of a verifier, and the characters of a challenge.
 pub const REDIRECT_LEAST: usize = 9;
 pub const REDIRECT_MOST: usize = 64;
@@ -105,6 +108,14 @@ pub struct Answer {
 /// What decide answers. After a no: the grant number, the holder given, scope 0, expiry 0.
 #[derive(Clone, Copy, Debug, PartialEq, Eq)]
 pub struct Decided {
+    pub answer: Answer,
+    /// How many bytes at the front of the output are the redirect.
+    pub redirect_length: usize,
+}
+
+/// What pending answers: the request as it waits, its holder 0.
+#[derive(Clone, Copy, Debug, PartialEq, Eq)]
+pub struct Shown {
     pub answer: Answer,
     /// How many bytes at the front of the output are the redirect.
     pub redirect_length: usize,
@@ -240,6 +251,38 @@ impl<'a> Ledger<'a> {
         let swept = unsafe { raw::perdigolh_sweep(self.0.as_mut_ptr(), self.0.len(), time) };
         done(swept.number)?;
         Ok(Swept { pushed: swept.pushed, consented: swept.consented, redeemed: swept.redeemed })
+    }
+
+    /// Checks 1, 2, 20, 10, 11; then the answer is the request that the holder is to see, and its redirect stands in the first 64
+    /// bytes of the output, with zeros behind it. The ledger is only read; as it is, a decide on this reference is about this grant
+    /// number and this redirect, and a yes allows this scope.
+    pub fn pending(&self, time: u64, request: &Pending, output: &mut [u8]) -> Result<Shown, Refusal> {
+        // SAFETY: every pointer is a reference's or a slice's with its length, and the output is borrowed alone.
+        let shown = unsafe {
+            raw::perdigolh_pending(
+                self.0.as_ptr(),
+                self.0.len(),
+                time,
+                &request.reference.0,
+                &request.client.0,
+                output.as_mut_ptr(),
+                output.len(),
+            )
+        };
+        let answer = answered(shown.answer)?;
+        Ok(Shown { answer, redirect_length: shown.length.into() })
+    }
+
+    /// Checks 1, 2, 20; then the front of the output is the token's text (RFC 7662): that of an unknown or expired token says so,
+    /// and is no refusal. The ledger is only read. The front has checked before that a figure server of the scheme asks.
+    pub fn introspect<'b>(&self, time: u64, token: &Token, output: &'b mut [u8]) -> Result<&'b str, Refusal> {
+        // SAFETY: as at pending.
+        let said = unsafe {
+            let (output, output_length) = (output.as_mut_ptr(), output.len());
+            raw::perdigolh_introspect(self.0.as_ptr(), self.0.len(), time, &token.0, output, output_length)
+        };
+        done(said.number)?;
+        Ok(str::from_utf8(&output[..said.length]).expect("the text has ASCII characters alone"))
     }
 }
 

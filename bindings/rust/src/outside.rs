@@ -4,7 +4,7 @@
 
 use crate::Refusal;
 
-/// The six calls.
+/// The six calls, and the two that only read.
 #[derive(Clone, Copy, Debug, PartialEq, Eq, Hash)]
 pub enum Call {
     Start,
@@ -13,6 +13,8 @@ pub enum Call {
     Token,
     Resource,
     Sweep,
+    Pending,
+    Introspect,
 }
 
 /// Whether the same call may be made once more. Nothing is sent outside before that.
@@ -41,7 +43,7 @@ pub enum Alarm {
 pub struct Outside {
     /// The HTTP status; none where nobody outside has asked, at start and at sweep.
     pub status: Option<u16>,
-    /// The OAuth error. None at decide, where the browser gets a page and is sent nowhere, and where no RFC has one.
+    /// The OAuth error. None at pending and decide, where the browser gets a page and is sent nowhere, and where no RFC has one.
     pub error: Option<&'static str>,
     pub retry: Retry,
     pub alarm: Alarm,
@@ -121,4 +123,14 @@ outside! {
 
     Sweep LedgerUnsound: -, -, Never, Always, "the ledger's name and length";
     Sweep TimeWrong: -, -, Time, Again, "the time handed in and the ledger's clock";
+
+    Pending LedgerUnsound: 500, -, Never, Always, "the ledger's name and length";
+    Pending TimeWrong: 503, -, Time, Again, "the time handed in and the ledger's clock";
+    Pending OutputShort: 500, -, Never, Always, "that the front lent too short an output";
+    Pending NoReference: 400, -, Never, Never, "the client id";
+    Pending RecordExpired: 400, -, Never, Never, "the client id";
+
+    Introspect LedgerUnsound: 500, -, Never, Always, "the ledger's name and length";
+    Introspect TimeWrong: 503, -, Time, Again, "the time handed in and the ledger's clock";
+    Introspect OutputShort: 500, -, Never, Always, "that the front lent too short an output";
 }

@@ -31,6 +31,13 @@ pub struct Swept {
     pub redeemed: usize,
 }
 
+#[derive(Clone, Copy, Debug)]
+#[repr(C)]
+pub struct Introspected {
+    pub number: u8,
+    pub length: usize,
+}
+
 extern "C" {
     pub fn perdigolh_version() -> u32;
 
@@ -93,4 +100,23 @@ extern "C" {
     ) -> Answer;
 
     pub fn perdigolh_sweep(ledger: *mut u8, ledger_length: usize, time: u64) -> Swept;
+
+    pub fn perdigolh_pending(
+        ledger: *const u8,
+        ledger_length: usize,
+        time: u64,
+        reference: *const [u8; 32],
+        client: *const [u8; 16],
+        output: *mut u8,
+        output_length: usize,
+    ) -> Decided;
+
+    pub fn perdigolh_introspect(
+        ledger: *const u8,
+        ledger_length: usize,
+        time: u64,
+        token: *const [u8; 32],
+        output: *mut u8,
+        output_length: usize,
+    ) -> Introspected;
 }

@@ -53,7 +53,7 @@ refusals! {
     NoToken = 17, "no record in state 3 with this token";
     KeyDiffers = 18, "presented key differs from the bound key";
     HolderDiffers = 19, "holder asked is not the record's holder";
-    OutputShort = 20, "output buffer shorter than 64 bytes";
+    OutputShort = 20, "output buffer shorter than 64 bytes (decide, pending) or than the text (introspect)";
 }
 
 impl Refusal {

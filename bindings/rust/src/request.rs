@@ -24,6 +24,13 @@ pub enum Choice {
     No,
 }
 
+/// The holder is to see a request before she decides on it.
+#[derive(Clone, Copy, Debug)]
+pub struct Pending {
+    pub reference: Reference,
+    pub client: ClientId,
+}
+
 /// The holder decides on a request. The front has checked before that `holder` is the person who has logged in, and that it is
 /// she who chose, seeing this request.
 #[derive(Clone, Copy, Debug)]

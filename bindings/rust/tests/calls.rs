@@ -1,4 +1,4 @@
-//! Whole grants and every refusal through the safe calls; the numbers expected are document 01's.
+//! Whole grants and every refusal through the safe calls; the numbers expected are the documents'.
 
 use perdigolh::*;
 
@@ -19,6 +19,7 @@ const YES: Decide = Decide { reference: REFERENCE, client: BUYER, choice: Choice
 const NO: Decide = Decide { choice: Choice::No, ..YES };
 const REDEEM: Redeem =
     Redeem { client: BUYER, key: KEY, presented: BOUND, code: CODE, verifier: VERIFIER, fresh: TOKEN };
+const PENDING: Pending = Pending { reference: REFERENCE, client: BUYER };
 const READ: Read = Read { token: TOKEN, presented: BOUND, scope: 4, holder: HOLDER };
 
 /// A started ledger of two records with a table of two clients, brought as far as asked.
@@ -86,6 +87,22 @@ impl World {
 
     fn sweep(&mut self, time: u64) -> Result<Swept, Refusal> {
         self.call(|ledger, _, _| ledger.sweep(time))
+    }
+
+    /// Makes a call that only reads: the ledger must be afterwards what it was.
+    fn read<T>(&mut self, call: impl FnOnce(&Ledger, &mut [u8]) -> Result<T, Refusal>) -> Result<T, Refusal> {
+        let before = self.bytes.clone();
+        let result = self.call(|ledger, _, output| call(ledger, output));
+        assert!(before == self.bytes, "a call that only reads wrote to the ledger");
+        result
+    }
+
+    fn pending(&mut self, time: u64, request: Pending) -> Result<Shown, Refusal> {
+        self.read(|ledger, output| ledger.pending(time, &request, output))
+    }
+
+    fn introspect(&mut self, time: u64, token: Token) -> Result<String, Refusal> {
+        self.read(|ledger, output| ledger.introspect(time, &token, output).map(str::to_owned))
     }
 }
 
@@ -257,6 +274,67 @@ fn sweep_frees_by_state() {
     assert_eq!(world.sweep((1 << 40) - 1), Ok(Swept { pushed: 0, consented: 0, redeemed: 0 }));
     world.bytes[0] = 1;
     assert_eq!(world.sweep((1 << 40) - 1), Err(Refusal::LedgerUnsound));
+}
+
+#[test]
+fn pending_shows_what_decide_then_allows() {
+    let mut world = World::at(Far::Pushed);
+    let shown = world.pending(1010, PENDING).unwrap();
+    assert_eq!(shown.answer, Answer { grant: 1, holder: 0, scope: 4, expiry: 1599 });
+    let output = std::mem::replace(&mut world.output, vec![0xcc; OUTPUT_LEAST + 6]);
+    let decided = world.decide(1010, YES).unwrap();
+    assert_eq!((decided.answer.grant, decided.answer.scope), (shown.answer.grant, shown.answer.scope));
+    assert_eq!((decided.redirect_length, &world.output), (shown.redirect_length, &output));
+}
+
+#[test]
+fn pending_is_refused_in_order() {
+    use Refusal::*;
+    let mut world = World::at(Far::Pushed);
+    assert_eq!(world.pending(1599, Pending { client: OTHER, ..PENDING }), Err(NoReference));
+    assert_eq!(world.pending(1599, Pending { reference: Reference(CODE.0), ..PENDING }), Err(NoReference));
+    assert_eq!(world.pending(1599, PENDING), Err(RecordExpired));
+    assert_eq!(world.pending(1598, PENDING).map(|shown| shown.answer.grant), Ok(1));
+    world.output.truncate(OUTPUT_LEAST - 1);
+    assert_eq!(world.pending(1599, Pending { client: OTHER, ..PENDING }), Err(OutputShort));
+    assert_eq!(world.pending(999, PENDING), Err(TimeWrong));
+    world.bytes[0] = 1;
+    assert_eq!(world.pending(999, PENDING), Err(LedgerUnsound));
+    assert_eq!(World::at(Far::Consented).pending(1010, PENDING), Err(NoReference));
+}
+
+/// The text of the grant that the tests make, as Python's json and base64 write it.
+const LIVE: &str =
+    "{\"active\":true,\"client_id\":\"a1a1a1a1a1a1a1a1a1a1a1a1a1a1a1a1\",\"sub\":\"7\",\"exp\":1359,\"scope\":\"s2\",\
+                    \"cnf\":{\"x5t#S256\":\"7u7u7u7u7u7u7u7u7u7u7u7u7u7u7u7u7u7u7u7u7u4\"}}";
+const INACTIVE: &str = "{\"active\":false}";
+
+#[test]
+fn introspect_tells_a_token() {
+    let mut world = World::at(Far::Redeemed);
+    world.output = vec![0xcc; TEXT_MOST];
+    assert_eq!(world.introspect(1358, TOKEN).as_deref(), Ok(LIVE));
+    assert!(world.output[LIVE.len()..].iter().all(|&byte| byte == 0xcc));
+    for (time, value) in [(1359, TOKEN.0), (1059, CODE.0), (1059, [0; 32])] {
+        assert_eq!(world.introspect(time, Token(value)).as_deref(), Ok(INACTIVE));
+    }
+}
+
+#[test]
+fn introspect_is_refused_in_order() {
+    use Refusal::*;
+    let mut world = World::at(Far::Redeemed);
+    for (token, text) in [(TOKEN, LIVE), (Token(CODE.0), INACTIVE)] {
+        world.output = vec![0xcc; text.len() - 1];
+        assert_eq!(world.introspect(1358, token), Err(OutputShort));
+        world.output = vec![0xcc; text.len()];
+        assert_eq!(world.introspect(1358, token).as_deref(), Ok(text));
+    }
+    world.output.clear();
+    assert_eq!(world.introspect(1059, TOKEN), Err(OutputShort));
+    assert_eq!(world.introspect(1058, TOKEN), Err(TimeWrong));
+    world.bytes[31] = 1;
+    assert_eq!(world.introspect(1058, TOKEN), Err(LedgerUnsound));
 }
 
 #[test]

@@ -2,14 +2,16 @@
 
 use perdigolh::*;
 
-/// The numbers of each call, in document 01's order.
-const CALLS: [(Call, &[u8]); 6] = [
+/// The numbers of each call, in the documents' order.
+const CALLS: [(Call, &[u8]); 8] = [
     (Call::Start, &[1]),
     (Call::Push, &[1, 2, 3, 4, 5, 6, 7, 8, 9]),
     (Call::Decide, &[1, 2, 20, 10, 11, 12, 7]),
     (Call::Token, &[1, 2, 3, 4, 13, 5, 14, 15, 11, 16, 7]),
     (Call::Resource, &[1, 2, 17, 11, 18, 6, 19]),
     (Call::Sweep, &[1, 2]),
+    (Call::Pending, &[1, 2, 20, 10, 11]),
+    (Call::Introspect, &[1, 2, 20]),
 ];
 
 fn rows() -> impl Iterator<Item = (Call, Refusal, Outside)> {
@@ -48,7 +50,9 @@ fn a_status_fits_its_error() {
 fn errors_are_those_of_the_endpoint() {
     for (call, refusal, said) in rows() {
         let known: &[&str] = match call {
-            Call::Start | Call::Decide | Call::Sweep => &[],
+            Call::Start | Call::Decide | Call::Sweep | Call::Pending => &[],
+            // RFC 7662, section 2.3: none but for a figure server that does not authenticate
+            Call::Introspect => &[],
             // RFC 9126, section 2.3: those of RFC 6749, sections 5.2 and 4.1.2.1
             Call::Push => {
                 &["invalid_request", "invalid_client", "invalid_scope", "server_error", "temporarily_unavailable"]

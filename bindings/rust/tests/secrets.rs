@@ -42,9 +42,10 @@ fn nothing_shown_has_a_secret() {
     let redeem =
         Redeem { client: CLIENT, key: KEY, presented: PRESENTED, code: CODE, verifier: VERIFIER, fresh: TOKEN };
     let read = Read { token: TOKEN, presented: PRESENTED, scope: 4, holder: 7 };
+    let pending = Pending { reference: REFERENCE, client: CLIENT };
     let ledger = Ledger::lent(&mut bytes);
-    let all: [&dyn Debug; 11] =
-        [&ledger, &push, &yes, &yes.choice, &redeem, &read, &KEY, &REFERENCE, &CODE, &TOKEN, &Some([TOKEN])];
+    let all: [&dyn Debug; 12] =
+        [&ledger, &push, &pending, &yes, &yes.choice, &redeem, &read, &KEY, &REFERENCE, &CODE, &TOKEN, &Some([TOKEN])];
     for what in all {
         for text in shown(what) {
             for secret in spellings() {

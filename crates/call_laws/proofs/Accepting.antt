@@ -4,7 +4,7 @@ use mathlib.Core.Path.{_≡_, refl, sym, ap, _∙_}
 use mathlib.Core.Logic.{_↔_}
 use mathlib.Core.Bool.{Bool, true, false, _&&_, true≢false}
 use mathlib.Core.List.{List}
-use lib.Dec.{eqb}
+use lib.Dec.{eqb, ltb}
 use lib.ListN.{length}
 use borrow.Author.Tests.{ltb-false, le-ltb, eqb-true, eqb-false, eq-eqb, ne-eqb}
 use Rattle.octets.specs.Lists.{place}
@@ -34,11 +34,17 @@ use Rattle.desk.specs.Token.{codePlace, token}
 use Rattle.desk.specs.Resource.{tokenPlace, resource}
 use Rattle.desk.specs.Sweep.{sweep}
 use Rattle.desk.specs.Start.{start}
+use Rattle.desk.specs.Requests.{PendingRequest}
+use Rattle.desk.specs.Pending.{pendingPlace, pending}
+use Rattle.desk.specs.Introspect.{textFor, introspect}
 use Rattle.call_laws.specs.Conditions.{FreshValue}
-use Rattle.call_laws.specs.Accepted.{StartAccepted, PushAccepted, DecideAccepted, TokenAccepted, ResourceAccepted, SweepAccepted}
-use Rattle.call_laws.proofs.Rows.{push-passed, decide-passed, token-passed, resource-passed, sweep-passed, start-passed}
-use Rattle.call_laws.proofs.Facts.{PushFacts, push-facts, facts-push, DecideFacts, decide-facts, facts-decide, TokenFacts, token-facts, facts-token, ResourceFacts, resource-facts, facts-resource, sweep-facts, facts-sweep}
-use Rattle.call_laws.proofs.Readings.{time-says, known-is, is-known, scope-says, fresh-says, alive-says, match-says, place-named, free-stands, reference-stands, code-stands, token-stands}
+use Rattle.call_laws.specs.Accepted.{StartAccepted, PushAccepted, DecideAccepted, TokenAccepted, ResourceAccepted, SweepAccepted, IntrospectAccepted}
+use Rattle.call_laws.proofs.Rows.{push-passed, decide-passed, token-passed, resource-passed, sweep-passed, introspect-passed, start-passed}
+use Rattle.call_laws.proofs.Facts.{PushFacts, push-facts, facts-push, DecideFacts, decide-facts, facts-decide, TokenFacts, token-facts, facts-token, ResourceFacts, resource-facts, facts-resource, sweep-facts, facts-sweep, introspect-facts, facts-introspect}
+use Rattle.call_laws.proofs.Readings.{time-says, known-is, is-known, scope-says, fresh-says, alive-says, match-says, place-named, free-stands, reference-stands, code-stands, token-stands, text-so, text-only}
+use Rattle.call_laws.specs.Accepted.{PendingAccepted}
+use Rattle.call_laws.proofs.Rows.{pending-passed}
+use Rattle.call_laws.proofs.Facts.{PendingFacts, pending-facts, facts-pending}
 
 -- ---- start
 
@@ -224,4 +230,63 @@ module _ (l : List ℕ) (t : ℕ) where
         let f = sweep-facts l t (sweep-passed l t .0 e) in
         record { ledger-sound = ledger-says l .0 (f .ledger-sound); in-time = time-says l t .0 (f .in-time) },
     λ w. sweep-passed l t .1 (facts-sweep l t (record { ledger-sound = ledger-says l .1 (w .ledger-sound); in-time = time-says l t .1 (w .in-time) })),
+  )
+
+-- ---- pending
+
+module _ (l : List ℕ) (t : ℕ) (p : PendingRequest) (out : List ℕ) where
+  pending-says : PendingFacts l t p out → PendingAccepted l t p out
+  pending-says f =
+      let r = first-in (isReference (p .reference) (p .client)) l (f .there) in
+      record {
+        ledger-sound = ledger-says l .0 (f .ledger-sound);
+        in-time = time-says l t .0 (f .in-time);
+        output-room = ltb-false (length out) outputLeast (f .output-long);
+        k = pendingPlace l p;
+        waits = reference-stands l (p .reference) (p .client) (pendingPlace l p) (r .inside) .0 (r .passes);
+        alive = alive-says t (rec l (pendingPlace l p)) .0 (f .alive);
+      }
+
+  says-pending : PendingAccepted l t p out → PendingFacts l t p out
+  says-pending w =
+      let e = reference-stands l (p .reference) (p .client) (w .k) (w .waits .inside) .1 (w .waits) in
+      let at = place-named (isReference (p .reference) (p .client)) l (w .k) (reference-first l (ledger-says l .1 (w .ledger-sound)) (p .reference) (p .client) (w .k) (w .waits .inside) e) in
+      record {
+        ledger-sound = ledger-says l .1 (w .ledger-sound);
+        in-time = time-says l t .1 (w .in-time);
+        output-long = le-ltb (length out) outputLeast (w .output-room);
+        there = some-in (isReference (p .reference) (p .client)) l (w .k) (w .waits .inside) e;
+        alive = ap (λ (k : ℕ). expired t (rec l k)) at ∙ alive-says t (rec l (w .k)) .1 (w .alive);
+      }
+
+  pub pending-accepted : ((pending l t p out) .answer .answer .number ≡ done) ↔ PendingAccepted l t p out
+  pending-accepted = (
+    λ e. pending-says (pending-facts l t p out (pending-passed l t p out .0 e)),
+    λ w. pending-passed l t p out .1 (facts-pending l t p out (says-pending w)),
+  )
+
+-- ---- introspect
+
+module _ (l : List ℕ) (t : ℕ) (v out : List ℕ) where
+  pub introspect-accepted : ((introspect l t v out) .answer .number ≡ done) ↔ IntrospectAccepted l t v out
+  introspect-accepted = (
+    λ e.
+        let f = introspect-facts l t v out (introspect-passed l t v out .0 e) in
+        record {
+          ledger-sound = ledger-says l .0 (f .ledger-sound);
+          in-time = time-says l t .0 (f .in-time);
+          text = textFor l t v;
+          text-is = text-so l t v (f .ledger-sound);
+          output-room = ltb-false (length out) (length (textFor l t v)) (f .output-long);
+        },
+    λ w.
+        let ok = ledger-says l .1 (w .ledger-sound) in
+        introspect-passed l t v out .1
+        (facts-introspect l t v out
+        (record {
+          ledger-sound = ok;
+          in-time = time-says l t .1 (w .in-time);
+          output-long = ap (λ (text : List ℕ). ltb (length out) (length text)) (text-only l t v ok (w .text) (w .text-is))
+              ∙ le-ltb (length out) (length (w .text)) (w .output-room);
+        })),
   )

@@ -37,13 +37,18 @@ use Rattle.desk.specs.Token.{codePlace, tokenRecord, tokenAt, token}
 use Rattle.desk.specs.Resource.{resource}
 use Rattle.desk.specs.Sweep.{sweep}
 use Rattle.desk.specs.Start.{start, emptyLedger}
+use Rattle.desk.specs.Introspect.{introspectWith, introspect}
 use Rattle.desk.specs.declared.answer.Refusal.the-variants.{LedgerUnsound}
 use Rattle.desk.proofs.Written.{timely-lt}
 use Rattle.desk.specs.declared.answer.Answer.{Answer}
 use Rattle.desk.specs.declared.answer.Decided.{Decided}
 use Rattle.desk.specs.declared.answer.Swept.{Swept}
+use Rattle.desk.specs.declared.answer.Introspected.{Introspected}
 use Rattle.desk.proofs.Turns.{number-refused}
-use Rattle.call_laws.proofs.Rows.{push-cases, decide-cases, token-cases, resource-cases, sweep-cases}
+use Rattle.call_laws.proofs.Rows.{push-cases, decide-cases, token-cases, resource-cases, sweep-cases, introspect-cases}
+use Rattle.desk.specs.Requests.{PendingRequest}
+use Rattle.desk.specs.Pending.{pendingAt, pending}
+use Rattle.call_laws.proofs.Rows.{pending-cases}
 use Rattle.call_laws.proofs.Facts.{PushFacts, push-facts, DecideFacts, decide-facts, TokenFacts, token-facts, resource-facts, sweep-facts}
 
 -- ---- one record rewritten, and the clock
@@ -350,6 +355,18 @@ pub sweep-unchanged : (l : List ℕ) (t : ℕ) → (sweep l t) .answer .number �
 sweep-unchanged l t =
     sweep-cases l t (λ (o : Outcome Swept). o .answer .number ≢ done → o .ledger ≡ l) (λ why u n. refl) (λ ok n. absurd (n refl))
 
+-- "The ledger is only read, clock included.": whatever is answered
+pub introspect-reads : (l : List ℕ) (t : ℕ) (v out : List ℕ) → (introspect l t v out) .ledger ≡ l
+unfolding introspectWith
+introspect-reads l t v out = introspect-cases l t v out (λ (o : Outcome Introspected). o .ledger ≡ l) (λ why u. refl) (λ ok. refl)
+
+pub introspect-unchanged : (l : List ℕ) (t : ℕ) (v out : List ℕ) → (introspect l t v out) .answer .number ≢ done
+    → ((introspect l t v out) .ledger ≡ l) × ((introspect l t v out) .output ≡ out)
+unfolding introspectWith
+introspect-unchanged l t v out =
+    introspect-cases l t v out (λ (o : Outcome Introspected). o .answer .number ≢ done → (o .ledger ≡ l) × (o .output ≡ out)) (λ why u n. (refl, refl))
+    (λ ok n. absurd (n refl))
+
 pub start-unchanged : (l : List ℕ) → (start l) .answer ≢ done → (start l) .ledger ≡ l
 unfolding start
 start-unchanged l = by (sized l)
@@ -358,3 +375,17 @@ start-unchanged l = by (sized l)
         → (cond b (left done (emptyLedger (length l))) (left (numberOf LedgerUnsound) l)) .ledger ≡ l
     by true n = absurd (n refl)
     by false n = refl
+
+-- ---- pending: the ledger is only read
+
+pub pending-unchanged : (l : List ℕ) (t : ℕ) (p : PendingRequest) (out : List ℕ) → (pending l t p out) .answer .answer .number ≢ done
+    → ((pending l t p out) .ledger ≡ l) × ((pending l t p out) .output ≡ out)
+unfolding pendingAt
+pending-unchanged l t p out =
+    pending-cases l t p out (λ (o : Outcome Decided). o .answer .answer .number ≢ done → (o .ledger ≡ l) × (o .output ≡ out)) (λ why u n. (refl, refl))
+    (λ ok n. absurd (n refl))
+
+-- accepted or refused
+pub pending-ledger : (l : List ℕ) (t : ℕ) (p : PendingRequest) (out : List ℕ) → (pending l t p out) .ledger ≡ l
+unfolding pendingAt
+pending-ledger l t p out = pending-cases l t p out (λ (o : Outcome Decided). o .ledger ≡ l) (λ why u. refl) (λ ok. refl)

@@ -26,6 +26,9 @@ use Rattle.desk.specs.Decide.{referencePlace, decideChecks}
 use Rattle.desk.specs.Token.{codePlace, tokenChecks}
 use Rattle.desk.specs.Resource.{tokenPlace, resourceChecks}
 use Rattle.desk.specs.Sweep.{sweepChecks}
+use Rattle.desk.specs.Requests.{PendingRequest}
+use Rattle.desk.specs.Pending.{pendingPlace, pendingChecks}
+use Rattle.desk.specs.Introspect.{textFor, introspectChecks}
 use Rattle.desk.proofs.Turns.{Passed}
 
 -- ---- push
@@ -201,3 +204,45 @@ module _ (l : List ℕ) (t : ℕ) where
   pub facts-sweep : SweepFacts l t → Passed (sweepChecks l t)
   unfolding sweepChecks
   facts-sweep f = (ap not (f .ledger-sound), (f .in-time, tt))
+
+-- ---- pending
+
+pub record PendingFacts (l : List ℕ) (t : ℕ) (p : PendingRequest) (out : List ℕ) : Type 0 where
+  pub ledger-sound : sound l ≡ true
+  pub in-time : untimely l t ≡ false
+  pub output-long : ltb (length out) outputLeast ≡ false
+  pub there : some (isReference (p .reference) (p .client)) (records l) ≡ true
+  pub alive : expired t (rec l (pendingPlace l p)) ≡ false
+
+module _ (l : List ℕ) (t : ℕ) (p : PendingRequest) (out : List ℕ) where
+  pub pending-facts : Passed (pendingChecks l t p out (pendingPlace l p)) → PendingFacts l t p out
+  unfolding pendingChecks
+  pending-facts ok =
+      let (a, (b, (c, (e, (f, _))))) = ok in
+      record {
+        ledger-sound = not-false (sound l) a;
+        in-time = b;
+        output-long = c;
+        there = not-false (some (isReference (p .reference) (p .client)) (records l)) e;
+        alive = f;
+      }
+
+  pub facts-pending : PendingFacts l t p out → Passed (pendingChecks l t p out (pendingPlace l p))
+  unfolding pendingChecks
+  facts-pending f = (ap not (f .ledger-sound), (f .in-time, (f .output-long, (ap not (f .there), (f .alive, tt)))))
+
+-- ---- introspect
+
+pub record IntrospectFacts (l : List ℕ) (t : ℕ) (v out : List ℕ) : Type 0 where
+  pub ledger-sound : sound l ≡ true
+  pub in-time : untimely l t ≡ false
+  pub output-long : ltb (length out) (length (textFor l t v)) ≡ false
+
+module _ (l : List ℕ) (t : ℕ) (v out : List ℕ) where
+  pub introspect-facts : Passed (introspectChecks l t v out) → IntrospectFacts l t v out
+  unfolding introspectChecks
+  introspect-facts ok = let (a, (b, (c, _))) = ok in record { ledger-sound = not-false (sound l) a; in-time = b; output-long = c }
+
+  pub facts-introspect : IntrospectFacts l t v out → Passed (introspectChecks l t v out)
+  unfolding introspectChecks
+  facts-introspect f = (ap not (f .ledger-sound), (f .in-time, (f .output-long, tt)))

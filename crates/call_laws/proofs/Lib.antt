@@ -5,3 +5,5 @@ pub mod Facts
 pub mod Alone
 pub mod Keeping
 pub mod Accepting
+pub mod Shown
+pub mod Living

@@ -1,14 +1,15 @@
 -- What the tests of the checks say in plain words, both ways: the parts of specs/Accepted.
-use Prim.Native.Nat.{ℕ, _<_}
+use Prim.Native.Nat.{ℕ, _≤_, _<_}
 use native.Mathlib.Omega.{arith}
-use mathlib.Core.Path.{_≡_, sym, ap, _∙_}
+use native.Mathlib.Decide.{decLt}
+use mathlib.Core.Path.{_≡_, refl, sym, ap, _∙_}
 use mathlib.Core.Logic.{inl, inr, ⊎-elim, _↔_}
-use mathlib.Core.Bool.{Bool, true, false, not, true≢false}
+use mathlib.Core.Bool.{Bool, true, false, not, cond, true≢false}
 use mathlib.Core.List.{List}
 use lib.Bits.{bitAnd}
 use lib.Dec.{eqb, ltb, leb}
 use borrow.Author.Tests.{ltb-false, le-ltb, leb-false, lt-leb, eqb-true, eqb-false, eq-eqb, ne-eqb, not-true}
-use Rattle.octets.specs.Lists.{place}
+use Rattle.octets.specs.Lists.{some, place}
 use Rattle.octets.proofs.Tests.{both, both-true, false-of}
 use Rattle.octets.proofs.Bytes.{nonzero-says}
 use Rattle.octets.proofs.Parts.{same-eq, same-of}
@@ -17,18 +18,21 @@ use Rattle.texts.specs.Base64url.{base64url}
 use Rattle.s256.specs.Rule.{matches}
 use Rattle.ledger.specs.Limits.{clockLimit}
 use Rattle.ledger.specs.Fields.{clock, rec, slots, records, state, stateNumber, inState, expiry, client, value}
+use Rattle.ledger.specs.Sound.{sound}
 use Rattle.ledger.specs.Checks.{untimely, isFree, isReference, isCode, isToken, expired, taken}
 use Rattle.ledger.specs.declared.state.State.the-variants.{Pushed, Consented, Redeemed}
 use Rattle.ledger_laws.proofs.Says.{neither}
-use Rattle.ledger_laws.proofs.Searches.{First, some-in, first-in, first-place, free-says, reference-says, code-says, token-says, fresh-in, fresh-taken}
+use Rattle.ledger_laws.proofs.Searches.{First, some-in, first-in, first-place, free-says, reference-says, code-says, token-says, token-first, fresh-in, fresh-taken}
 use Rattle.clients.specs.Known.{isKnown, placeOf, known}
 use Rattle.clients.specs.Sound.{sound as tableSound}
 use Rattle.clients.specs.Plain.{KnownAt}
 use Rattle.clients.specs.declared.known.Known.the-variants.{At}
 use Rattle.clients.proofs.Laws.{known-at, known-sound}
+use Rattle.description.specs.Description.{liveText, inactiveText}
 use Rattle.desk.specs.Checks.{scopeFits, within}
+use Rattle.desk.specs.Introspect.{describes, shown, isLive, textFor}
 use Rattle.desk.proofs.Tests.{known-told, known-place}
-use Rattle.call_laws.specs.Conditions.{InTime, ScopeWithin, FreshValue, FirstFree, StandsAt, TokenAt}
+use Rattle.call_laws.specs.Conditions.{InTime, ScopeWithin, FreshValue, FirstFree, StandsAt, TokenAt, TextFor}
 
 -- ---- what several calls ask
 
@@ -150,3 +154,55 @@ token-stands l v k h = (
       record { inside = h; state-is = a; token-is = b },
   λ w. token-says v (rec l k) .1 (w .state-is, w .token-is),
 )
+
+-- ---- the text for a token at a time
+
+module _ (l : List ℕ) (t : ℕ) (v : List ℕ) where
+  abbrev at-place : ℕ
+  at-place = place (isToken v) (records l)
+
+  -- a live token's record
+  pub live-at : isLive l t v ≡ true → TokenAt l v at-place × (t < expiry (shown l v))
+  unfolding isLive
+  live-at e =
+      let (a, b) = both (some (isToken v) (records l)) (not (expired t (shown l v))) e in
+      let f = first-in (isToken v) l a in
+      (token-stands l v at-place (f .inside) .0 (f .passes), alive-says t (shown l v) .0 (not-true (expired t (shown l v)) b))
+
+  pub place-at : sound l ≡ true → (k : ℕ) → TokenAt l v k → at-place ≡ k
+  place-at ok k x = place-named (isToken v) l k (token-first l ok v k (x .inside) (token-stands l v k (x .inside) .1 x))
+
+  pub at-live : sound l ≡ true → (k : ℕ) → TokenAt l v k → t < expiry (rec l k) → isLive l t v ≡ true
+  unfolding isLive
+  at-live ok k x h =
+      both-true (some (isToken v) (records l)) (not (expired t (shown l v)))
+      (some-in (isToken v) l k (x .inside) (token-stands l v k (x .inside) .1 x))
+      (ap (λ (j : ℕ). not (expired t (rec l j))) (place-at ok k x) ∙ ap not (alive-says t (rec l k) .1 h))
+
+  at-expired : sound l ≡ true → isLive l t v ≡ false → (k : ℕ) → TokenAt l v k → expiry (rec l k) ≤ t
+  at-expired ok n k x = go (decLt t (expiry (rec l k)))
+    where
+      go : Dec (t < expiry (rec l k)) → expiry (rec l k) ≤ t
+      go (yes h) = absurd (true≢false (sym (at-live ok k x h) ∙ n))
+      go (no h) = omega (arith, h)
+
+  pub text-by : (b : Bool) → isLive l t v ≡ b → textFor l t v ≡ cond b (liveText (describes (shown l v))) inactiveText
+  unfolding textFor
+  text-by b e = rw e
+
+  pub text-so : sound l ≡ true → TextFor l t v (textFor l t v)
+  text-so ok =
+      record {
+        when-live = λ k x h. text-by true (at-live ok k x h) ∙ ap (λ (j : ℕ). liveText (describes (rec l j))) (place-at ok k x);
+        when-not = λ f.
+            text-by false
+            (false-of (isLive l t v) (λ e. let (x, h) = live-at e in let g = f at-place x in omega (arith, g, h)));
+      }
+
+  -- there is no other
+  pub text-only : sound l ≡ true → (text : List ℕ) → TextFor l t v text → textFor l t v ≡ text
+  text-only ok text w = go (isLive l t v) refl
+    where
+      go : (b : Bool) → isLive l t v ≡ b → textFor l t v ≡ text
+      go true e = let (x, h) = live-at e in text-by true e ∙ sym (w .when-live at-place x h)
+      go false e = text-by false e ∙ sym (w .when-not (at-expired ok e))

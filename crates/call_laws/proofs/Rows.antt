@@ -22,9 +22,13 @@ use Rattle.desk.specs.Token.{codePlace, tokenChecks, tokenAt, tokenLeaves, toke
 use Rattle.desk.specs.Resource.{tokenPlace, resourceChecks, readBy, look, resourceLeaves, resourceBy, resource}
 use Rattle.desk.specs.Sweep.{sweepChecks, sweepLeaves, sweep}
 use Rattle.desk.specs.Start.{start, emptyLedger}
+use Rattle.desk.specs.Requests.{PendingRequest}
+use Rattle.desk.specs.Pending.{pendingPlace, pendingChecks, pendingAt, pendingLeaves, pending}
+use Rattle.desk.specs.Introspect.{textFor, introspectChecks, introspectWith, introspectLeaves, introspect}
 use Rattle.desk.specs.declared.answer.Answer.{Answer}
 use Rattle.desk.specs.declared.answer.Decided.{Decided}
 use Rattle.desk.specs.declared.answer.Swept.{Swept}
+use Rattle.desk.specs.declared.answer.Introspected.{Introspected}
 use Rattle.desk.specs.declared.answer.Refusal.{Refusal}
 use Rattle.desk.specs.declared.answer.Refusal.the-variants.{LedgerUnsound}
 use Rattle.desk.proofs.Turns.{Passed, Turn, by-turns, numberBy, number-stopped, number-refused, passes-exactly, turns-exactly}
@@ -144,6 +148,49 @@ module _ (l : List ℕ) (t : ℕ) where
   pub sweep-turn : (why : Refusal) → ((sweep l t) .answer .number ≡ numberOf why) ↔ Turn why (sweepChecks l t)
   sweep-turn = turns-exactly _ (sweepChecks l t) sweep-number
 
+module _ (l : List ℕ) (t : ℕ) (p : PendingRequest) (out : List ℕ) where
+  pub pending-cases : (P : Outcome Decided → Type 0) → ((why : Refusal) → Turn why (pendingChecks l t p out (pendingPlace l p)) → P (pendingLeaves l out why))
+      → (Passed (pendingChecks l t p out (pendingPlace l p)) → P (pendingAt l out (pendingPlace l p))) → P (pending l t p out)
+  unfolding pending
+  pending-cases P f g =
+      by-turns (pendingChecks l t p out (pendingPlace l p))
+      (λ (v : Verdict). P (concludes v (pendingLeaves l out) (pendingAt l out (pendingPlace l p)))) f g
+
+  pending-number : (pending l t p out) .answer .answer .number ≡ numberBy (first (pendingChecks l t p out (pendingPlace l p)))
+  unfolding pending pendingAt
+  pending-number = by (first (pendingChecks l t p out (pendingPlace l p)))
+    where
+      by : (v : Verdict) → (concludes v (pendingLeaves l out) (pendingAt l out (pendingPlace l p))) .answer .answer .number ≡ numberBy v
+      by accepted = refl
+      by (stopped why) = refl
+
+  pub pending-passed : ((pending l t p out) .answer .answer .number ≡ done) ↔ Passed (pendingChecks l t p out (pendingPlace l p))
+  pending-passed = passes-exactly _ (pendingChecks l t p out (pendingPlace l p)) pending-number
+
+  pub pending-turn : (why : Refusal) → ((pending l t p out) .answer .answer .number ≡ numberOf why) ↔ Turn why (pendingChecks l t p out (pendingPlace l p))
+  pending-turn = turns-exactly _ (pendingChecks l t p out (pendingPlace l p)) pending-number
+
+module _ (l : List ℕ) (t : ℕ) (v out : List ℕ) where
+  pub introspect-cases : (P : Outcome Introspected → Type 0) → ((why : Refusal) → Turn why (introspectChecks l t v out) → P (introspectLeaves l out why))
+      → (Passed (introspectChecks l t v out) → P (introspectWith l out (textFor l t v))) → P (introspect l t v out)
+  unfolding introspect
+  introspect-cases P f g =
+      by-turns (introspectChecks l t v out) (λ (o : Verdict). P (concludes o (introspectLeaves l out) (introspectWith l out (textFor l t v)))) f g
+
+  introspect-number : (introspect l t v out) .answer .number ≡ numberBy (first (introspectChecks l t v out))
+  unfolding introspect introspectWith
+  introspect-number = by (first (introspectChecks l t v out))
+    where
+      by : (o : Verdict) → (concludes o (introspectLeaves l out) (introspectWith l out (textFor l t v))) .answer .number ≡ numberBy o
+      by accepted = refl
+      by (stopped why) = refl
+
+  pub introspect-passed : ((introspect l t v out) .answer .number ≡ done) ↔ Passed (introspectChecks l t v out)
+  introspect-passed = passes-exactly _ (introspectChecks l t v out) introspect-number
+
+  pub introspect-turn : (why : Refusal) → ((introspect l t v out) .answer .number ≡ numberOf why) ↔ Turn why (introspectChecks l t v out)
+  introspect-turn = turns-exactly _ (introspectChecks l t v out) introspect-number
+
 -- start has one check: the length
 module _ (l : List ℕ) where
   pub start-passed : ((start l) .answer ≡ done) ↔ (sized l ≡ true)
@@ -227,6 +274,15 @@ pub sweep-numbers : (l : List ℕ) (t : ℕ) → isOneOf (0 ∷ 1 ∷ 2 ∷ []) 
 unfolding sweepChecks
 sweep-numbers l t = listed _ (sweepChecks l t) (sweep-number l t)
 
+pub pending-numbers : (l : List ℕ) (t : ℕ) (p : PendingRequest) (out : List ℕ)
+    → isOneOf (0 ∷ 1 ∷ 2 ∷ 20 ∷ 10 ∷ 11 ∷ []) ((pending l t p out) .answer .answer .number) ≡ true
+unfolding pendingChecks
+pending-numbers l t p out = listed _ (pendingChecks l t p out (pendingPlace l p)) (pending-number l t p out)
+
+pub introspect-numbers : (l : List ℕ) (t : ℕ) (v out : List ℕ) → isOneOf (0 ∷ 1 ∷ 2 ∷ 20 ∷ []) ((introspect l t v out) .answer .number) ≡ true
+unfolding introspectChecks
+introspect-numbers l t v out = listed _ (introspectChecks l t v out) (introspect-number l t v out)
+
 pub start-numbers : (l : List ℕ) → isOneOf (0 ∷ 1 ∷ []) ((start l) .answer) ≡ true
 unfolding start
 start-numbers l = by (sized l)
@@ -270,6 +326,13 @@ unfolding sweep
 sweep-refusal l t why e =
     ap (λ (v : Verdict). concludes v (sweepLeaves l) (left (sweptOf (freed t l)) (withClock t (swept t l))))
     (number-stopped (first (sweepChecks l t)) why (sym (sweep-number l t) ∙ e))
+
+pub introspect-refusal : (l : List ℕ) (t : ℕ) (v out : List ℕ) (why : Refusal)
+    → (introspect l t v out) .answer .number ≡ numberOf why → introspect l t v out ≡ introspectLeaves l out why
+unfolding introspect
+introspect-refusal l t v out why e =
+    ap (λ (o : Verdict). concludes o (introspectLeaves l out) (introspectWith l out (textFor l t v)))
+    (number-stopped (first (introspectChecks l t v out)) why (sym (introspect-number l t v out) ∙ e))
 
 pub start-refusal : (l : List ℕ) → (start l) .answer ≡ numberOf LedgerUnsound → (start l) .ledger ≡ l
 unfolding start

@@ -17,7 +17,8 @@ use Rattle.clients.specs.Fields.{client as entry, permitted}
 use Rattle.clients.specs.Plain.{SoundTable, KnownAt}
 use Rattle.desk.specs.Limits.{outputLeast}
 use Rattle.desk.specs.Requests.{PushRequest, DecideRequest, TokenRequest, ResourceRequest}
-use Rattle.call_laws.specs.Conditions.{InTime, ScopeWithin, FreshValue, FirstFree, StandsAt, TokenAt}
+use Rattle.call_laws.specs.Conditions.{InTime, ScopeWithin, FreshValue, FirstFree, StandsAt, TokenAt, TextFor}
+use Rattle.desk.specs.Requests.{PendingRequest}
 
 -- "Start (ledger buffer, old content ignored): 1 if the length is wrong."
 abbrev pub StartAccepted : List ℕ → Type 0
@@ -81,3 +82,20 @@ pub record ResourceAccepted (l : List ℕ) (t : ℕ) (q : ResourceRequest) : Typ
 pub record SweepAccepted (l : List ℕ) (t : ℕ) : Type 0 where
   pub ledger-sound : SoundLedger l
   pub in-time : InTime l t
+
+-- beyond document 01, pending (reference, client id, output buffer): 20, 10, 11 as decide has them: record k waits under this reference, for this client
+pub record PendingAccepted (l : List ℕ) (t : ℕ) (p : PendingRequest) (out : List ℕ) : Type 0 where
+  pub ledger-sound : SoundLedger l
+  pub in-time : InTime l t
+  pub output-room : outputLeast ≤ length out
+  pub k : ℕ
+  pub waits : StandsAt Pushed l (p .reference) (p .client) k
+  pub alive : t < expiry (rec l k)
+
+-- "Refusals: 1, 2, then 20 when the buffer is shorter than the text." (document 02, Q-1)
+pub record IntrospectAccepted (l : List ℕ) (t : ℕ) (v out : List ℕ) : Type 0 where
+  pub ledger-sound : SoundLedger l
+  pub in-time : InTime l t
+  pub text : List ℕ
+  pub text-is : TextFor l t v text
+  pub output-room : length text ≤ length out

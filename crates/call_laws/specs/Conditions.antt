@@ -5,10 +5,12 @@ use mathlib.Core.Logic.{_≢_}
 use mathlib.Core.List.{List}
 use lib.Bits.{bitAnd}
 use Rattle.octets.specs.Plain.{NotZero}
+use Rattle.description.specs.Description.{liveText, inactiveText}
 use Rattle.ledger.specs.Limits.{clockLimit}
-use Rattle.ledger.specs.Fields.{clock, rec, slots, state, stateNumber, client, value, token}
+use Rattle.ledger.specs.Fields.{clock, rec, slots, state, stateNumber, expiry, client, value, token}
 use Rattle.ledger.specs.declared.state.State.{State}
 use Rattle.ledger.specs.declared.state.State.the-variants.{Free, Redeemed}
+use Rattle.desk.specs.Introspect.{describes}
 
 -- 2: "now is below the clock, or 2^40 or more" is not so
 pub record InTime (l : List ℕ) (t : ℕ) : Type 0 where
@@ -44,3 +46,9 @@ pub record TokenAt (l v : List ℕ) (k : ℕ) : Type 0 where
   pub inside : k < slots l
   pub state-is : state (rec l k) ≡ stateNumber Redeemed
   pub token-is : token (rec l k) ≡ v
+
+-- "For a token at a time, write `{"active":false}` when it is unknown or expired, else one object" (document 02, Q-1)
+pub record TextFor (l : List ℕ) (t : ℕ) (v text : List ℕ) : Type 0 where
+  pub when-live : (k : ℕ) → TokenAt l v k → t < expiry (rec l k) → text ≡ liveText (describes (rec l k))
+  -- unknown or expired: no record has this token but an expired one
+  pub when-not : ((k : ℕ) → TokenAt l v k → expiry (rec l k) ≤ t) → text ≡ inactiveText

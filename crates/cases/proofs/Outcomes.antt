@@ -9,14 +9,18 @@ use Rattle.desk.specs.Decide.{decide}
 use Rattle.desk.specs.Token.{token}
 use Rattle.desk.specs.Resource.{resource}
 use Rattle.desk.specs.Sweep.{sweep}
+use Rattle.desk.specs.Pending.{pending}
+use Rattle.desk.specs.Introspect.{introspect}
 use Rattle.desk.specs.declared.answer.Answer.{Answer}
 use Rattle.desk.specs.declared.answer.Decided.{Decided}
 use Rattle.desk.specs.declared.answer.Swept.{Swept}
+use Rattle.desk.specs.declared.answer.Introspected.{Introspected}
 use Rattle.front.specs.Consent.{consents}
-use Rattle.front.specs.Seen.{asAnswer, asDecided, asSwept}
+use Rattle.front.specs.Seen.{asAnswer, asDecided, asSwept, asIntrospected}
 use Rattle.front.specs.declared.answer.Answer.{Answer as FrontAnswer}
 use Rattle.front.specs.declared.answer.Decided.{Decided as FrontDecided}
 use Rattle.front.specs.declared.answer.Swept.{Swept as FrontSwept}
+use Rattle.front.specs.declared.answer.Introspected.{Introspected as FrontIntrospected}
 use Rattle.cases.specs.Outcomes.{OneOutcome, Is, Are, Made, OneEach, OneExported}
 
 is-one : (A : Type 0) (v : A) → OneOutcome (Is v)
@@ -42,6 +46,11 @@ one-each =
       token-one = λ l t table q. made-one (Answer × List ℕ) (Outcome Answer) (λ x. left (x .0) (x .1)) (λ o. (o .answer, o .ledger)) (λ x. refl) (token l t table q);
       resource-one = λ l t q. made-one (Answer × List ℕ) (Outcome Answer) (λ x. left (x .0) (x .1)) (λ o. (o .answer, o .ledger)) (λ x. refl) (resource l t q);
       sweep-one = λ l t. made-one (Swept × List ℕ) (Outcome Swept) (λ x. left (x .0) (x .1)) (λ o. (o .answer, o .ledger)) (λ x. refl) (sweep l t);
+      pending-one = λ l t p out.
+          made-one (Decided × List ℕ) (Outcome Decided) (λ x. leftWith (x .0) l (x .1)) (λ o. (o .answer, o .output)) (λ x. refl) (pending l t p out);
+      introspect-one = λ l t v out.
+          made-one (Introspected × List ℕ) (Outcome Introspected) (λ x. leftWith (x .0) l (x .1)) (λ o. (o .answer, o .output)) (λ x. refl)
+          (introspect l t v out);
     }
 
 -- ---- the structs that C reads lose nothing
@@ -54,6 +63,9 @@ fromDecided d = record { answer = fromAnswer (d .answer); length = d .length }
 
 abbrev fromSwept : Swept → FrontSwept
 fromSwept s = record { number = s .number; pushed = s .pushed; consented = s .consented; redeemed = s .redeemed }
+
+abbrev fromIntrospected : Introspected → FrontIntrospected
+fromIntrospected i = record { number = i .number; length = i .length }
 
 answer-one : (v : Outcome Answer) → OneOutcome (λ (x : FrontAnswer × List ℕ). left (asAnswer (x .0)) (x .1) ≡ v)
 answer-one v =
@@ -72,4 +84,10 @@ one-exported =
       perdigolh-resource = λ l t q. answer-one (resource l t q);
       perdigolh-sweep = λ l t.
           made-one (FrontSwept × List ℕ) (Outcome Swept) (λ x. left (asSwept (x .0)) (x .1)) (λ o. (fromSwept (o .answer), o .ledger)) (λ x. refl) (sweep l t);
+      perdigolh-pending = λ l t p out.
+          made-one (FrontDecided × List ℕ) (Outcome Decided) (λ x. leftWith (asDecided (x .0)) l (x .1)) (λ o. (fromDecided (o .answer), o .output)) (λ x. refl)
+          (pending l t p out);
+      perdigolh-introspect = λ l t v out.
+          made-one (FrontIntrospected × List ℕ) (Outcome Introspected) (λ x. leftWith (asIntrospected (x .0)) l (x .1))
+          (λ o. (fromIntrospected (o .answer), o .output)) (λ x. refl) (introspect l t v out);
     }

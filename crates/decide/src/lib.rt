@@ -12,12 +12,13 @@ ghost use Rattle.ledger.specs.Write.{consented, free};
 ghost use Rattle.desk.specs.Answers.{answerOf, answerNo};
 ghost use Rattle.desk.specs.Tests.{failsWhen};
 ghost use Rattle.desk.specs.Outcome.{leftWith};
-ghost use Rattle.desk.specs.Decide.{decide, handedOut, consentAt, declineAt};
+ghost use Rattle.desk.specs.Decide.{decide, consentAt, declineAt};
 use desk::answer::Answer;
 use desk::answer::Decided;
 use desk::answer::Refusal;
 use desk::check;
 use desk::check::Test;
+use desk::output::hand_out;
 use ledger::clock::Timing;
 use ledger::clock::set_clock;
 use ledger::find::Found;
@@ -27,11 +28,9 @@ use ledger::pool::Value;
 use ledger::record::Life;
 use ledger::record::address;
 use ledger::record::check_life;
-use ledger::record::redirect_field;
 use ledger::record::redirect_length;
 use ledger::sound::Soundness;
 use octets::part::clear;
-use octets::part::put;
 
 // Writes a consent into its record, and answers what the record then has.
 fn consent_record(r: &mut [u8], expiry: u64, holder: u64, fresh: &[u8; 32]) -> Answer
@@ -49,13 +48,6 @@ fn decline_record(r: &mut [u8], holder: u64) -> Answer
     let answer = Answer::no(ledger::record::grant(r), holder);
     clear(r);
     answer
-}
-
-// Copies the record's redirect, with the zeros behind it, to the front of the output.
-fn hand_out(out: &mut [u8], r: &[u8])
-    ensures { λ _. ⌜ now (out .exit) ≡ handedOut (now (r .entry)) (now (out .entry)) ⌝ }
-{
-    put(out, 0, redirect_field(r));
 }
 
 // The fresh value is looked at on yes alone.

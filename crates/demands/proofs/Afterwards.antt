@@ -7,8 +7,9 @@ use mathlib.Core.Logic.{_≢_, _⊎_, inl, inr}
 use mathlib.Core.Bool.{Bool, true, false, not, _&&_, cond, true≢false, and-false}
 use mathlib.Core.List.{List, [], _∷_, _++_, append-assoc}
 use lib.ListN.{length, take, drop, length-take, length-drop, take-append-drop}
+use lib.Dec.{ltb}
 use borrow.Author.Tests.{eq-eqb, ne-eqb, ltb-false, le-leb, lt-leb}
-use Rattle.octets.specs.Lists.{place}
+use Rattle.octets.specs.Lists.{some, place}
 use Rattle.octets.specs.Numbers.{digits}
 use Rattle.octets.specs.Parts.{blank, zeros}
 use Rattle.octets.specs.Plain.{Bytes}
@@ -19,13 +20,15 @@ use Rattle.octets.proofs.Bytes.{zeros-take, zeros-drop, zeros-say}
 use Rattle.forms.specs.Forms.{redirectFormed, challengeFormed}
 use Rattle.forms.proofs.Laws.{challenge-length, redirect-length}
 use Rattle.ledger.specs.Limits.{recordSize}
-use Rattle.ledger.specs.Fields.{nextNumber, headRest, rec, slots, records, state, stateNumber, used, redirectLength, expiry, redirectField, redirect, behindRedirect, withRecord, withNext, withClock}
+use Rattle.ledger.specs.Fields.{nextNumber, headRest, rec, slots, records, state, stateNumber, used, redirectLength, scope, grant, expiry, redirectField, redirect, behindRedirect, withRecord, withNext, withClock}
+use Rattle.ledger.specs.Sound.{sound}
 use Rattle.ledger.specs.Checks.{isFree, isReference, isCode, isToken, expired}
 use Rattle.ledger.specs.Write.{free}
 use Rattle.ledger.specs.Sweep.{swept, freedOf, freed}
 use Rattle.ledger.specs.declared.state.State.the-variants.{Free, Pushed, Consented, Redeemed}
 use Rattle.ledger.proofs.Records.{slot-within, rec-length, length-with, rec-same, rec-other}
 use Rattle.ledger.proofs.Swept.{length-free, length-to}
+use Rattle.ledger_laws.specs.Sound.{SoundInUse}
 use Rattle.ledger_laws.proofs.Says.{sized-says}
 use Rattle.ledger_laws.proofs.Plain.{ledger-says}
 use Rattle.ledger_laws.proofs.Searches.{first-in, free-found}
@@ -42,18 +45,25 @@ use Rattle.desk.specs.Answers.{done}
 use Rattle.desk.specs.Requests.{PushRequest, DecideRequest, TokenRequest, ResourceRequest}
 use Rattle.desk.specs.Start.{emptyLedger}
 use Rattle.desk.specs.Push.{pushRecord, pushAt}
-use Rattle.desk.specs.Decide.{referencePlace, handedOut, consentRecord, consentAt, declineAt, decideAt}
+use Rattle.desk.specs.Decide.{waitingPlace, referencePlace, handedOut, consentRecord, consentAt, declineAt, decideAt}
 use Rattle.desk.specs.Token.{codePlace, tokenRecord, tokenAt}
 use Rattle.desk.specs.Resource.{tokenPlace}
+use Rattle.desk.specs.Introspect.{textFor, introspectWith}
 use Rattle.call_laws.specs.Conditions.{StandsAt}
 use Rattle.desk.proofs.Turns.{number-refused}
-use Rattle.call_laws.proofs.Rows.{push-cases, decide-cases, token-cases, resource-cases, sweep-cases}
-use Rattle.call_laws.proofs.Facts.{PushFacts, push-facts, DecideFacts, decide-facts, TokenFacts, token-facts, resource-facts, sweep-facts}
-use Rattle.call_laws.proofs.Readings.{known-is, free-stands, reference-stands, code-stands, token-stands}
+use Rattle.call_laws.proofs.Rows.{push-cases, decide-cases, token-cases, resource-cases, sweep-cases, introspect-cases}
+use Rattle.call_laws.proofs.Facts.{PushFacts, push-facts, DecideFacts, decide-facts, TokenFacts, token-facts, resource-facts, sweep-facts, introspect-facts}
+use Rattle.call_laws.proofs.Readings.{known-is, free-stands, reference-stands, code-stands, token-stands, text-so}
 use Rattle.call_laws.proofs.Alone.{length-pushed, length-consented, length-redeemed, push-next, start-writes, sweep-alone}
 use Rattle.demands.specs.Layout.{clockBytes, nextBytes, eightBytes, valueLong, keyLong}
-use Rattle.demands.specs.Calls.{start, push, decide, token, resource, sweep, four, three, Left, leaves}
-use Rattle.demands.specs.Afterwards.{Entered, Consenting, Redeeming, AllButOne, told, AfterStart, AfterPush, AfterDecide, AfterToken, AfterResource, AfterSweep}
+use Rattle.demands.specs.Calls.{start, push, decide, token, resource, sweep, introspect, four, three, Left, leaves}
+use Rattle.demands.specs.Afterwards.{Entered, Consenting, Redeeming, AllButOne, told, AfterStart, AfterPush, AfterDecide, AfterToken, AfterResource, AfterSweep, AfterIntrospect}
+use Rattle.desk.specs.Requests.{PendingRequest}
+use Rattle.desk.specs.Pending.{pendingPlace, pendingAt}
+use Rattle.call_laws.proofs.Rows.{pending-cases}
+use Rattle.call_laws.proofs.Facts.{pending-facts}
+use Rattle.demands.specs.Calls.{pending}
+use Rattle.demands.specs.Afterwards.{AfterPending}
 use Rattle.demands.proofs.Written.{entered, consenting, redeeming}
 
 -- ---- the head
@@ -205,6 +215,27 @@ handed-is r out long h m z =
     ∙ ap (λ (xs : List ℕ). xs ++ drop outputLeast out) split
     ∙ append-assoc (redirect r) (blank (outputLeast - redirectLength r)) (drop outputLeast out)
 
+-- the record that waits under a reference, for decide and for pending
+module _ (l v c : List ℕ) where
+  abbrev waiter : List ℕ
+  waiter = rec l (waitingPlace l v c)
+
+  waiting : some (isReference v c) (records l) ≡ true → StandsAt Pushed l v c (waitingPlace l v c)
+  waiting e = let x = first-in (isReference v c) l e in reference-stands l v c (waitingPlace l v c) (x .inside) .0 (x .passes)
+
+  module _ (ok : sound l ≡ true) (x : StandsAt Pushed l v c (waitingPlace l v c)) where
+    waiting-sound : SoundInUse (nextNumber l) waiter
+    waiting-sound =
+        let s = x .state-is in
+        ledger-says l .0 ok .each (waitingPlace l v c) (x .inside) .when-used (λ e. omega arith)
+
+    waiting-handed : (out : List ℕ) → ltb (length out) outputLeast ≡ false
+        → handedOut waiter out ≡ redirect waiter ++ (blank (outputLeast - redirectLength waiter) ++ drop outputLeast out)
+    waiting-handed out long =
+        let u = waiting-sound in
+        handed-is waiter out (rec-length l (waitingPlace l v c) (x .inside)) (ltb-false (length out) outputLeast long) (u .length-most)
+        (zeros-say (behindRedirect waiter) .1 (u .behind-zero))
+
 module _ (l : List ℕ) (t : ℕ) (d : DecideRequest) (out : List ℕ) where
   abbrev waits : ℕ
   waits = referencePlace l d
@@ -216,16 +247,10 @@ module _ (l : List ℕ) (t : ℕ) (d : DecideRequest) (out : List ℕ) where
   consent = consentRecord t (d .holder) (d .fresh) asked
 
   decide-place : DecideFacts l t d out → StandsAt Pushed l (d .reference) (d .client) waits
-  decide-place f =
-      let x = first-in (isReference (d .reference) (d .client)) l (f .there) in
-      reference-stands l (d .reference) (d .client) waits (x .inside) .0 (x .passes)
+  decide-place f = waiting l (d .reference) (d .client) (f .there)
 
   decide-handed : DecideFacts l t d out → handedOut asked out ≡ redirect asked ++ (blank (outputLeast - redirectLength asked) ++ drop outputLeast out)
-  decide-handed f =
-      let x = decide-place f in
-      let s = x .state-is in
-      let u = ledger-says l .0 (f .ledger-sound) .each waits (x .inside) .when-used (λ e. omega arith) in
-      handed-is asked out (rec-length l waits (x .inside)) (ltb-false (length out) outputLeast (f .output-long)) (u .length-most) (zeros-say (behindRedirect asked) .1 (u .behind-zero))
+  decide-handed f = waiting-handed l (d .reference) (d .client) (f .ledger-sound) (decide-place f) out (f .output-long)
 
   consent-record : DecideFacts l t d out → length consent ≡ 256
   unfolding consentRecord
@@ -395,3 +420,52 @@ module _ (l : List ℕ) (t : ℕ) where
         long = a .long;
         answer-is = counts;
       }
+
+-- ---- pending
+
+module _ (l : List ℕ) (t : ℕ) (p : PendingRequest) (out : List ℕ) where
+  pub after-pending : leaves l [] (pending t p out) .number ≡ done → AfterPending l p out (leaves l [] (pending t p out))
+  unfolding pendingAt
+  after-pending =
+      pending-cases l t p out
+      (λ o. o .answer .answer .number ≡ done
+      → AfterPending l p out
+      (record {
+        number = o .answer .answer .number;
+        beside = four (o .answer .answer) ++ (o .answer .length ∷ []);
+        ledger = o .ledger;
+        output = o .output;
+      }))
+      (λ why u e. absurd (number-refused why e))
+      (λ ok e.
+      let f = pending-facts l t p out ok in
+      let x = waiting l (p .reference) (p .client) (f .there) in
+      let r = rec l (pendingPlace l p) in
+      record {
+        k = pendingPlace l p;
+        place = x;
+        ledger-is = refl;
+        answer-is = ap (λ (who : ℕ). grant r ∷ who ∷ scope r ∷ expiry r ∷ redirectLength r ∷ []) (waiting-sound l (p .reference) (p .client) (f .ledger-sound) x .holder-none (x .state-is));
+        output-is = waiting-handed l (p .reference) (p .client) (f .ledger-sound) x out (f .output-long);
+      })
+
+-- ---- introspect
+
+module _ (l : List ℕ) (t : ℕ) (v out : List ℕ) where
+  pub after-introspect : leaves l [] (introspect t v out) .number ≡ done → AfterIntrospect l t v out (leaves l [] (introspect t v out))
+  unfolding introspectWith
+  after-introspect =
+      introspect-cases l t v out
+      (λ o. o .answer .number ≡ done
+      → AfterIntrospect l t v out (record { number = o .answer .number; beside = o .answer .length ∷ []; ledger = o .ledger; output = o .output }))
+      (λ why u e. absurd (number-refused why e))
+      (λ ok e.
+      let f = introspect-facts l t v out ok in
+      let room = ltb-false (length out) (length (textFor l t v)) (f .output-long) in
+      record {
+        text = textFor l t v;
+        text-is = text-so l t v (f .ledger-sound);
+        ledger-stays = refl;
+        answer-is = refl;
+        output-is = put-splice out 0 (textFor l t v) (omega (arith, room));
+      })

@@ -3,7 +3,7 @@ use Prim.Native.Nat.{ℕ}
 use mathlib.Core.Path.{_≡_, refl, sym, _∙_}
 use mathlib.Core.Logic.{_≢_, _⊎_, inl, inr, ⊎-elim}
 use mathlib.Core.Bool.{Bool, true, false, true≢false, false≢true}
-use mathlib.Core.List.{List, [], _∷_}
+use mathlib.Core.List.{List, [], _∷_, _++_}
 use lib.Dec.{eqb}
 use borrow.Author.Tests.{eqb-true}
 use Rattle.octets.specs.Lists.{some}
@@ -20,14 +20,19 @@ use Rattle.desk.specs.Answers.{numberOf, done}
 use Rattle.desk.specs.Push.{pushAt}
 use Rattle.desk.specs.Decide.{consentAt, declineAt}
 use Rattle.desk.specs.Token.{tokenAt}
+use Rattle.desk.specs.Pending.{pendingAt}
+use Rattle.desk.specs.Introspect.{introspectWith}
 use Rattle.desk.specs.declared.answer.Refusal.{Refusal}
 use Rattle.desk.specs.declared.answer.Refusal.the-variants.{LedgerUnsound, TimeWrong, TableUnsound}
 use Rattle.call_laws.specs.Conditions.{InTime}
 use Rattle.desk.proofs.Turns.{number-refused}
 use Rattle.call_laws.proofs.Readings.{time-says}
-use Rattle.call_laws.proofs.Rows.{start-numbers, push-numbers, decide-numbers, token-numbers, resource-numbers, sweep-numbers, push-cases, decide-cases, token-cases, resource-cases, sweep-cases}
-use Rattle.call_laws.proofs.Alone.{either-way, start-unchanged, push-unchanged, decide-unchanged, token-unchanged, resource-unchanged, sweep-unchanged}
-use Rattle.demands.specs.Calls.{Start, Call, start, push, decide, token, resource, sweep, kindOf, lent, four, three, leaves}
+use Rattle.call_laws.proofs.Rows.{start-numbers, push-numbers, decide-numbers, token-numbers, resource-numbers, sweep-numbers, introspect-numbers, push-cases, decide-cases, token-cases, resource-cases, sweep-cases, introspect-cases}
+use Rattle.call_laws.proofs.Alone.{either-way, start-unchanged, push-unchanged, decide-unchanged, token-unchanged, resource-unchanged, sweep-unchanged, introspect-unchanged}
+use Rattle.demands.specs.Calls.{Start, Call, start, push, decide, token, resource, sweep, introspect, kindOf, lent, four, three, leaves}
+use Rattle.call_laws.proofs.Rows.{pending-numbers, pending-cases}
+use Rattle.call_laws.proofs.Alone.{pending-unchanged}
+use Rattle.demands.specs.Calls.{pending}
 use Rattle.demands.specs.Demand1.{numbers, In, readsTable, Demand1}
 use Rattle.demands.specs.Rows.{Not, Row, _given_, Turn, begins, rows}
 use Rattle.demands.proofs.Rows.{turns}
@@ -46,6 +51,8 @@ from-list l table (decide t d out) = one-of _ (done ∷ numbers (kindOf (decide 
 from-list l table (token t q) = one-of _ (done ∷ numbers (kindOf (token t q))) (token-numbers l t table q)
 from-list l table (resource t q) = one-of _ (done ∷ numbers (kindOf (resource t q))) (resource-numbers l t q)
 from-list l table (sweep t) = one-of _ (done ∷ numbers (kindOf (sweep t))) (sweep-numbers l t)
+from-list l table (pending t p out) = one-of _ (done ∷ numbers (kindOf (pending t p out))) (pending-numbers l t p out)
+from-list l table (introspect t v out) = one-of _ (done ∷ numbers (kindOf (introspect t v out))) (introspect-numbers l t v out)
 
 -- ---- 1 and 3 come first
 
@@ -56,6 +63,8 @@ ledger-first l table (decide t d out) n u = turns l table (decide t d out) Ledge
 ledger-first l table (token t q) n u = turns l table (token t q) LedgerUnsound .1 (inl (u, refl))
 ledger-first l table (resource t q) n u = turns l table (resource t q) LedgerUnsound .1 (inl (u, refl))
 ledger-first l table (sweep t) n u = turns l table (sweep t) LedgerUnsound .1 (inl (u, refl))
+ledger-first l table (pending t p out) n u = turns l table (pending t p out) LedgerUnsound .1 (inl (u, refl))
+ledger-first l table (introspect t v out) n u = turns l table (introspect t v out) LedgerUnsound .1 (inl (u, refl))
 
 -- 1 and 2 are not given: the ledger is sound and the time in order
 sound-passed : (l : List ℕ) (n : ℕ) → ((SoundLedger l → ⊥) → n ≡ numberOf LedgerUnsound) → n ≢ numberOf LedgerUnsound → SoundLedger l
@@ -93,6 +102,8 @@ table-third l table (decide t d out) e = absurd (false≢true e)
 table-third l table (token t q) e = third l table t (token t q) _ refl
 table-third l table (resource t q) e = absurd (false≢true e)
 table-third l table (sweep t) e = absurd (false≢true e)
+table-third l table (pending t p out) e = absurd (false≢true e)
+table-third l table (introspect t v out) e = absurd (false≢true e)
 
 no-table : (l table other : List ℕ) (c : Call) → readsTable (kindOf c) ≡ false → leaves l table c ≡ leaves l other c
 no-table l table other start e = refl
@@ -101,12 +112,18 @@ no-table l table other (decide t d out) e = refl
 no-table l table other (token t q) e = absurd (true≢false e)
 no-table l table other (resource t q) e = refl
 no-table l table other (sweep t) e = refl
+no-table l table other (pending t p out) e = refl
+no-table l table other (introspect t v out) e = refl
 
 -- ---- zeros beside the number
 
 no-values : AllZero []
 unfolding zeros
 no-values = zeros-say [] .0 refl
+
+one-zero : AllZero (0 ∷ [])
+unfolding zeros
+one-zero = zeros-say (0 ∷ []) .0 refl
 
 three-zeros : AllZero (0 ∷ 0 ∷ 0 ∷ [])
 unfolding zeros
@@ -121,7 +138,7 @@ unfolding zeros
 five-zeros = zeros-say (0 ∷ 0 ∷ 0 ∷ 0 ∷ 0 ∷ []) .0 refl
 
 nothing-beside : (l table : List ℕ) (c : Call) → leaves l table c .number ≢ done → AllZero (leaves l table c .beside)
-unfolding pushAt consentAt declineAt tokenAt
+unfolding pushAt consentAt declineAt tokenAt pendingAt introspectWith
 nothing-beside l table start = λ n. no-values
 nothing-beside l table (push t p) =
     push-cases l t table p (λ o. o .answer .number ≢ done → AllZero (four (o .answer))) (λ why u n. four-zeros) (λ ok n. absurd (n refl))
@@ -141,6 +158,11 @@ nothing-beside l table (resource t q) =
     resource-cases l t q (λ o. o .answer .number ≢ done → AllZero (four (o .answer))) (λ why u n. four-zeros) (λ ok n. absurd (n refl))
 nothing-beside l table (sweep t) =
     sweep-cases l t (λ o. o .answer .number ≢ done → AllZero (three (o .answer))) (λ why u n. three-zeros) (λ ok n. absurd (n refl))
+nothing-beside l table (pending t p out) =
+    pending-cases l t p out (λ o. o .answer .answer .number ≢ done → AllZero (four (o .answer .answer) ++ (o .answer .length ∷ []))) (λ why u n. five-zeros)
+    (λ ok n. absurd (n refl))
+nothing-beside l table (introspect t v out) =
+    introspect-cases l t v out (λ o. o .answer .number ≢ done → AllZero (o .answer .length ∷ [])) (λ why u n. one-zero) (λ ok n. absurd (n refl))
 
 -- ---- no lent byte changed
 
@@ -151,6 +173,8 @@ lent-stays l table (decide t d out) n = decide-unchanged l t d out n
 lent-stays l table (token t q) n = (token-unchanged l t table q n, refl)
 lent-stays l table (resource t q) n = (resource-unchanged l t q n, refl)
 lent-stays l table (sweep t) n = (sweep-unchanged l t n, refl)
+lent-stays l table (pending t p out) n = pending-unchanged l t p out n
+lent-stays l table (introspect t v out) n = introspect-unchanged l t v out n
 
 pub demand1 : Demand1
 demand1 =

@@ -4,7 +4,7 @@ use mathlib.Core.Path.{_≡_, refl, sym, ap, _∙_}
 use mathlib.Core.Logic.{_≢_, _⊎_, inl, inr, ⊎-elim, _↔_}
 use mathlib.Core.Bool.{Bool, true, false, not, _&&_, true≢false}
 use mathlib.Core.List.{List, []}
-use lib.Dec.{eqb}
+use lib.Dec.{eqb, ltb}
 use lib.ListN.{length}
 use borrow.Author.Tests.{ltb-true, lt-ltb, leb-true, le-leb, eqb-true, eq-eqb, not-true, not-false}
 use Rattle.octets.specs.Lists.{some}
@@ -34,16 +34,22 @@ use Rattle.desk.specs.Checks.{scopeFits}
 use Rattle.desk.specs.Limits.{outputLeast}
 use Rattle.desk.specs.Requests.{PushRequest, DecideRequest, TokenRequest, ResourceRequest}
 use Rattle.desk.specs.Push.{pushChecks}
-use Rattle.desk.specs.Decide.{referencePlace, decideChecks}
+use Rattle.desk.specs.Decide.{waitingPlace, referencePlace, decideChecks}
 use Rattle.desk.specs.Token.{codePlace, tokenChecks}
 use Rattle.desk.specs.Resource.{tokenPlace, resourceChecks}
 use Rattle.desk.specs.Sweep.{sweepChecks}
+use Rattle.desk.specs.Requests.{PendingRequest}
+use Rattle.desk.specs.Pending.{pendingPlace, pendingChecks}
+use Rattle.desk.specs.Introspect.{textFor, introspectChecks}
 use Rattle.desk.specs.declared.answer.Refusal.{Refusal}
-use Rattle.call_laws.specs.Conditions.{ScopeWithin, FreshValue, StandsAt, TokenAt}
-use Rattle.call_laws.proofs.Rows.{startChecks, start-turn, push-turn, decide-turn, token-turn, resource-turn, sweep-turn}
-use Rattle.call_laws.proofs.Readings.{time-says, known-is, is-known, scope-says, fresh-says, match-says, place-named, reference-stands, code-stands, redeemed-stands, token-stands}
-use Rattle.demands.specs.Calls.{Call, start, push, decide, token, resource, sweep, leaves}
-use Rattle.demands.specs.Rows.{Not, Turn, startRows, pushRows, decideRows, tokenRows, resourceRows, begins, rows}
+use Rattle.call_laws.specs.Conditions.{ScopeWithin, FreshValue, StandsAt, TokenAt, TextFor}
+use Rattle.call_laws.proofs.Rows.{startChecks, start-turn, push-turn, decide-turn, token-turn, resource-turn, sweep-turn, introspect-turn}
+use Rattle.call_laws.proofs.Readings.{time-says, known-is, is-known, scope-says, fresh-says, match-says, place-named, reference-stands, code-stands, redeemed-stands, token-stands, text-so, text-only}
+use Rattle.demands.specs.Calls.{Call, start, push, decide, token, resource, sweep, introspect, leaves}
+use Rattle.demands.specs.Rows.{Not, Turn, startRows, pushRows, decideRows, tokenRows, resourceRows, introspectRows, begins, rows}
+use Rattle.call_laws.proofs.Rows.{pending-turn}
+use Rattle.demands.specs.Calls.{pending}
+use Rattle.demands.specs.Rows.{pendingRows}
 use Rattle.demands.proofs.Turning.{Agreed, none, row, turns-say, not-says, flip-says, either-fails, at-found}
 
 -- ---- rows that several calls have
@@ -73,6 +79,15 @@ none-says q l S inside says = (
   λ e k x. true≢false (sym (some-in q l k (inside k x) (says k (inside k x) .1 x)) ∙ not-true (some q (records l)) e),
   λ n. ap not (none-found q l (λ k h. false-of (q (rec l k)) (λ e. n k (says k h .0 e)))),
 )
+
+-- 11, of the record in state 1 with this reference and client id, once 10 has passed
+on-reference : (l : List ℕ) (t : ℕ) (v c : List ℕ) → sound l ≡ true → not (some (isReference v c) (records l)) ≡ false
+    → (expired t (rec l (waitingPlace l v c)) ≡ true) ↔ ((k : ℕ) × StandsAt Pushed l v c k × (expiry (rec l k) ≤ t))
+on-reference l t v c ok n =
+    let f = first-in (isReference v c) l (not-false (some (isReference v c) (records l)) n) in
+    at-found (λ (k : ℕ). expired t (rec l k)) (StandsAt Pushed l v c) (λ (k : ℕ). expiry (rec l k) ≤ t) (λ k. expired-says t (rec l k)) (waitingPlace l v c)
+    (reference-stands l v c (waitingPlace l v c) (f .inside) .0 (f .passes))
+    (λ k x. place-named (isReference v c) l k (reference-first l ok v c k (x .inside) (reference-stands l v c k (x .inside) .1 x)))
 
 -- ---- the calls
 
@@ -110,11 +125,6 @@ module _ (l : List ℕ) (t : ℕ) (d : DecideRequest) (out : List ℕ) where
       let f = flip-says (taken l (d .fresh)) (fresh-says l (d .fresh)) in
       (λ e. let (a, b) = both (d .yes) (taken l (d .fresh)) e in (a, f .0 b), λ x. both-true (d .yes) (taken l (d .fresh)) (x .0) (f .1 (x .1)))
 
-  reference-here : sound l ≡ true → (k : ℕ) → StandsAt Pushed l (d .reference) (d .client) k → referencePlace l d ≡ k
-  reference-here ok k x =
-      place-named (isReference (d .reference) (d .client)) l k
-      (reference-first l ok (d .reference) (d .client) k (x .inside) (reference-stands l (d .reference) (d .client) k (x .inside) .1 x))
-
   decide-agrees : Agreed (decideChecks l t d out (referencePlace l d)) (decideRows l t d out)
   unfolding decideChecks
   decide-agrees =
@@ -124,12 +134,7 @@ module _ (l : List ℕ) (t : ℕ) (d : DecideRequest) (out : List ℕ) where
       row
       (none-says (isReference (d .reference) (d .client)) l (StandsAt Pushed l (d .reference) (d .client)) (λ k x. x .inside) (reference-stands l (d .reference) (d .client)))
       (λ n.
-      let f = first-in (isReference (d .reference) (d .client)) l (not-false (some (isReference (d .reference) (d .client)) (records l)) n) in
-      let here = reference-stands l (d .reference) (d .client) (referencePlace l d) (f .inside) .0 (f .passes) in
-      row
-      (at-found (λ (k : ℕ). expired t (rec l k)) (StandsAt Pushed l (d .reference) (d .client)) (λ (k : ℕ). expiry (rec l k) ≤ t) (λ k. expired-says t (rec l k))
-      (referencePlace l d) here (reference-here (not-false (sound l) s)))
-      (λ e.
+      row (on-reference l t (d .reference) (d .client) (not-false (sound l) s) n) (λ e.
       row (eqb-true (d .holder) 0, eq-eqb (d .holder) 0) (λ h.
       row taken-says (λ v. none)))))))
 
@@ -246,6 +251,40 @@ module _ (l : List ℕ) (t : ℕ) where
   sweep-turns : (why : Refusal) → (leaves l [] (sweep t) .number ≡ numberOf why) ↔ Turn why (begins l t [])
   sweep-turns why = turns-say _ why (sweepChecks l t) (begins l t []) sweep-agrees (sweep-turn l t why)
 
+module _ (l : List ℕ) (t : ℕ) (p : PendingRequest) (out : List ℕ) where
+  pending-agrees : Agreed (pendingChecks l t p out (pendingPlace l p)) (pendingRows l t p out)
+  unfolding pendingChecks
+  pending-agrees =
+      row (not-says (sound l) (ledger-says l)) (λ s.
+      row (flip-says (untimely l t) (time-says l t)) (λ i.
+      row (ltb-true (length out) outputLeast, lt-ltb (length out) outputLeast) (λ o.
+      row
+      (none-says (isReference (p .reference) (p .client)) l (StandsAt Pushed l (p .reference) (p .client)) (λ k x. x .inside) (reference-stands l (p .reference) (p .client)))
+      (λ n. row (on-reference l t (p .reference) (p .client) (not-false (sound l) s) n) (λ e. none)))))
+
+  pending-turns : (why : Refusal) → (leaves l [] (pending t p out) .number ≡ numberOf why) ↔ Turn why (pendingRows l t p out)
+  pending-turns why = turns-say _ why (pendingChecks l t p out (pendingPlace l p)) (pendingRows l t p out) pending-agrees (pending-turn l t p out why)
+
+module _ (l : List ℕ) (t : ℕ) (v out : List ℕ) where
+  short-says : sound l ≡ true
+      → (ltb (length out) (length (textFor l t v)) ≡ true) ↔ ((text : List ℕ) × TextFor l t v text × (length out < length text))
+  short-says ok = (
+    λ e. (textFor l t v, text-so l t v ok, ltb-true (length out) (length (textFor l t v)) e),
+    λ x.
+        ap (λ (text : List ℕ). ltb (length out) (length text)) (text-only l t v ok (x .0) (x .1))
+        ∙ lt-ltb (length out) (length (x .0)) (x .2),
+  )
+
+  introspect-agrees : Agreed (introspectChecks l t v out) (introspectRows l t v out)
+  unfolding introspectChecks
+  introspect-agrees =
+      row (not-says (sound l) (ledger-says l)) (λ s.
+      row (flip-says (untimely l t) (time-says l t)) (λ i.
+      row (short-says (not-false (sound l) s)) (λ o. none)))
+
+  introspect-turns : (why : Refusal) → (leaves l [] (introspect t v out) .number ≡ numberOf why) ↔ Turn why (introspectRows l t v out)
+  introspect-turns why = turns-say _ why (introspectChecks l t v out) (introspectRows l t v out) introspect-agrees (introspect-turn l t v out why)
+
 pub turns : (l table : List ℕ) (c : Call) (why : Refusal) → (leaves l table c .number ≡ numberOf why) ↔ Turn why (rows l table c)
 turns l table start why = start-turns l why
 turns l table (push t p) why = push-turns l t table p why
@@ -253,3 +292,5 @@ turns l table (decide t d out) why = decide-turns l t d out why
 turns l table (token t q) why = token-turns l t table q why
 turns l table (resource t q) why = resource-turns l t q why
 turns l table (sweep t) why = sweep-turns l t why
+turns l table (pending t p out) why = pending-turns l t p out why
+turns l table (introspect t v out) why = introspect-turns l t v out why

@@ -14,7 +14,8 @@ use Rattle.ledger.specs.Sweep.{freedOf}
 use Rattle.ledger.specs.declared.state.State.the-variants.{Free, Pushed, Consented, Redeemed}
 use Rattle.desk.specs.Limits.{outputLeast}
 use Rattle.desk.specs.Requests.{PushRequest, DecideRequest, TokenRequest, ResourceRequest}
-use Rattle.call_laws.specs.Conditions.{FirstFree, StandsAt, TokenAt}
+use Rattle.call_laws.specs.Conditions.{FirstFree, StandsAt, TokenAt, TextFor}
+use Rattle.desk.specs.Requests.{PendingRequest}
 use Rattle.demands.specs.Layout.{clockBytes, nextBytes, stateByte, lengthByte, scopeBytes, grantBytes, expiryBytes, holderBytes, byte, fourBytes, eightBytes, valueLong, keyLong}
 use Rattle.demands.specs.Calls.{Left}
 
@@ -141,3 +142,19 @@ pub record AfterSweep (l : List ℕ) (t : ℕ) (a : Left) : Type 0 where
   pub rest-stays : headRest (a .ledger) ≡ headRest l
   pub long : length (a .ledger) ≡ length l
   pub answer-is : a .beside ≡ freedOf Pushed t l ∷ freedOf Consented t l ∷ freedOf Redeemed t l ∷ []
+
+-- beyond document 01, pending: the request as it waits, with holder 0, and its redirect as decide hands it out; the ledger is only read
+pub record AfterPending (l : List ℕ) (p : PendingRequest) (out : List ℕ) (a : Left) : Type 0 where
+  pub k : ℕ
+  pub place : StandsAt Pushed l (p .reference) (p .client) k
+  pub ledger-is : a .ledger ≡ l
+  pub answer-is : a .beside ≡ grant (rec l k) ∷ 0 ∷ scope (rec l k) ∷ expiry (rec l k) ∷ redirectLength (rec l k) ∷ []
+  pub output-is : a .output ≡ redirect (rec l k) ++ (blank (outputLeast - redirectLength (rec l k)) ++ drop outputLeast out)
+
+-- "The ledger is only read, clock included. The answer is the number and the text's length; bytes behind the text stay." (document 02, Q-1)
+pub record AfterIntrospect (l : List ℕ) (t : ℕ) (v out : List ℕ) (a : Left) : Type 0 where
+  pub text : List ℕ
+  pub text-is : TextFor l t v text
+  pub ledger-stays : a .ledger ≡ l
+  pub answer-is : a .beside ≡ length text ∷ []
+  pub output-is : a .output ≡ text ++ drop (length text) out

@@ -10,7 +10,8 @@ use Rattle.clients.specs.Plain.{SoundTable}
 use Rattle.desk.specs.Answers.{numberOf, done}
 use Rattle.desk.specs.declared.answer.Refusal.{Refusal}
 use Rattle.desk.specs.declared.answer.Refusal.the-variants.{LedgerUnsound, TimeWrong, TableUnsound}
-use Rattle.demands.specs.Calls.{Kind, Start, Push, Decide, Token, Resource, Sweep, Call, kindOf, lent, leaves}
+use Rattle.demands.specs.Calls.{Kind, Start, Push, Decide, Token, Resource, Sweep, Introspect, Call, kindOf, lent, leaves}
+use Rattle.demands.specs.Calls.{Pending}
 
 -- the numbers of each call's refusals, in the order of its checks
 abbrev pub numbers : Kind → List ℕ
@@ -20,6 +21,8 @@ numbers Decide = 1 ∷ 2 ∷ 20 ∷ 10 ∷ 11 ∷ 12 ∷ 7 ∷ []
 numbers Token = 1 ∷ 2 ∷ 3 ∷ 4 ∷ 13 ∷ 5 ∷ 14 ∷ 15 ∷ 11 ∷ 16 ∷ 7 ∷ []
 numbers Resource = 1 ∷ 2 ∷ 17 ∷ 11 ∷ 18 ∷ 6 ∷ 19 ∷ []
 numbers Sweep = 1 ∷ 2 ∷ []
+numbers Pending = 1 ∷ 2 ∷ 20 ∷ 10 ∷ 11 ∷ []
+numbers Introspect = 1 ∷ 2 ∷ 20 ∷ []
 
 -- n is one of these
 abbrev pub In : ℕ → List ℕ → Type 0
@@ -38,6 +41,8 @@ readsTable Decide = false
 readsTable Token = true
 readsTable Resource = false
 readsTable Sweep = false
+readsTable Pending = false
+readsTable Introspect = false
 
 pub record Demand1 : Type 0 where
   -- "Each call, on every input, ends with an answer from the table in document 01": 0, or a number of the call's own list

@@ -5,10 +5,13 @@ use mathlib.Core.Logic.{_↔_}
 use mathlib.Core.List.{List}
 use Rattle.desk.specs.Answers.{numberOf, done}
 use Rattle.desk.specs.declared.answer.Refusal.{Refusal}
-use Rattle.call_laws.specs.Accepted.{StartAccepted, PushAccepted, DecideAccepted, TokenAccepted, ResourceAccepted, SweepAccepted}
-use Rattle.demands.specs.Calls.{Call, start, push, decide, token, resource, sweep, Left, leaves}
+use Rattle.call_laws.specs.Accepted.{StartAccepted, PushAccepted, DecideAccepted, TokenAccepted, ResourceAccepted, SweepAccepted, IntrospectAccepted}
+use Rattle.demands.specs.Calls.{Call, start, push, decide, token, resource, sweep, introspect, Left, leaves}
 use Rattle.demands.specs.Rows.{Turn, rows}
-use Rattle.demands.specs.Afterwards.{AfterStart, AfterPush, AfterDecide, AfterToken, AfterResource, AfterSweep}
+use Rattle.demands.specs.Afterwards.{AfterStart, AfterPush, AfterDecide, AfterToken, AfterResource, AfterSweep, AfterIntrospect}
+use Rattle.call_laws.specs.Accepted.{PendingAccepted}
+use Rattle.demands.specs.Calls.{pending}
+use Rattle.demands.specs.Afterwards.{AfterPending}
 
 -- what "document 01" asks of a call, in plain words
 abbrev pub Allowed : List ℕ → List ℕ → Call → Type 0
@@ -18,6 +21,8 @@ Allowed l table (decide t d out) = DecideAccepted l t d out
 Allowed l table (token t q) = TokenAccepted l t table q
 Allowed l table (resource t q) = ResourceAccepted l t q
 Allowed l table (sweep t) = SweepAccepted l t
+Allowed l table (pending t p out) = PendingAccepted l t p out
+Allowed l table (introspect t v out) = IntrospectAccepted l t v out
 
 -- and what an accepted call leaves
 abbrev pub After : List ℕ → Call → Left → Type 0
@@ -27,6 +32,8 @@ After l (decide t d out) a = AfterDecide l t d out a
 After l (token t q) a = AfterToken l t q a
 After l (resource t q) a = AfterResource l t q a
 After l (sweep t) a = AfterSweep l t a
+After l (pending t p out) a = AfterPending l p out a
+After l (introspect t v out) a = AfterIntrospect l t v out a
 
 pub record Demand2 : Type 0 where
   -- "A call is accepted exactly when the FAPI 2.0 Security Profile, .. as condensed in document 01, allow it."

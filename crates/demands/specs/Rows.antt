@@ -40,8 +40,10 @@ use Rattle.desk.specs.declared.answer.Refusal.the-variants.{
   HolderDiffers,
   OutputShort,
 }
-use Rattle.call_laws.specs.Conditions.{InTime, ScopeWithin, FreshValue, StandsAt, TokenAt}
-use Rattle.demands.specs.Calls.{Call, start, push, decide, token, resource, sweep}
+use Rattle.call_laws.specs.Conditions.{InTime, ScopeWithin, FreshValue, StandsAt, TokenAt, TextFor}
+use Rattle.demands.specs.Calls.{Call, start, push, decide, token, resource, sweep, introspect}
+use Rattle.desk.specs.Requests.{PendingRequest}
+use Rattle.demands.specs.Calls.{pending}
 
 abbrev pub Not : Type 0 → Type 0
 Not P = P → ⊥
@@ -119,6 +121,19 @@ resourceRows l t q =
     ∷ (HolderDiffers given ((k : ℕ) × TokenAt l (q .token) k × (holder (rec l k) ≢ q .holder)))
     ∷ [])
 
+-- beyond document 01, pending: 20, 10, 11 as decide has them; the record is the one in state 1 with this reference and client id
+abbrev pub pendingRows : List ℕ → ℕ → PendingRequest → List ℕ → List Row
+pendingRows l t p out =
+    begins l t
+    ((OutputShort given (length out < outputLeast))
+    ∷ (NoReference given ((k : ℕ) → Not (StandsAt Pushed l (p .reference) (p .client) k)))
+    ∷ (RecordExpired given ((k : ℕ) × StandsAt Pushed l (p .reference) (p .client) k × (expiry (rec l k) ≤ t)))
+    ∷ [])
+
+-- introspect: "1, 2, then 20 when the buffer is shorter than the text" (document 02, Q-1)
+abbrev pub introspectRows : List ℕ → ℕ → List ℕ → List ℕ → List Row
+introspectRows l t v out = begins l t ((OutputShort given ((text : List ℕ) × TextFor l t v text × (length out < length text))) ∷ [])
+
 -- the rows of a call, on this ledger and this client table
 abbrev pub rows : List ℕ → List ℕ → Call → List Row
 rows l table start = startRows l
@@ -127,3 +142,5 @@ rows l table (decide t d out) = decideRows l t d out
 rows l table (token t q) = tokenRows l t table q
 rows l table (resource t q) = resourceRows l t q
 rows l table (sweep t) = begins l t []
+rows l table (pending t p out) = pendingRows l t p out
+rows l table (introspect t v out) = introspectRows l t v out

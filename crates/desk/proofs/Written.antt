@@ -25,6 +25,7 @@ use Rattle.desk.specs.Outcome.{Outcome, left, leftWith}
 use Rattle.desk.specs.Push.{clientRecord, grantedBits, lifetime, freePlace, entered, pushAt, pushRecord}
 use Rattle.desk.specs.Decide.{referencePlace, handedOut, consentRecord, consentAt, declineAt, decideAt}
 use Rattle.desk.specs.Token.{codePlace, tokenRecord, rewritten, tokenAt}
+use Rattle.desk.specs.Pending.{pendingAt}
 use Rattle.desk.specs.declared.answer.Answer.{Answer}
 use Rattle.desk.specs.declared.answer.Decided.{Decided}
 use Rattle.desk.specs.declared.answer.Swept.{Swept}
@@ -133,6 +134,12 @@ decide-no l t d out k y e = rw e (by (d .yes) y)
 pub sweep-written : (l : List ℕ) (t : ℕ) (y z : List ℕ) (f : Freed) (a : Swept) → f ≡ freed t l → y ≡ swept t l → z ≡ withClock t y → a ≡ sweptOf f
     → left a z ≡ left (sweptOf (freed t l)) (withClock t (swept t l))
 sweep-written l t y z f a hf hy hz ha = rw (ha, hz, hy, hf)
+
+-- a request shown: the answer, the length and the output, each of the record that was taken
+pub pending-shown : (l out : List ℕ) (k : ℕ) (r o : List ℕ) (a : Answer) (n : ℕ) (d : Decided) → r ≡ rec l k → o ≡ handedOut r out → a ≡ answerOf r
+    → n ≡ redirectLength r → d ≡ decided a n → leftWith d l o ≡ pendingAt l out k
+unfolding pendingAt
+pending-shown l out k r o a n d hr ho ha hn hd = rw (hd, ho, ha, hn, hr)
 
 -- ---- a refusal, as the code returns it
 

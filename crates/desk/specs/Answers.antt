@@ -29,6 +29,7 @@ use Rattle.desk.specs.declared.answer.Refusal.the-variants.{
 use Rattle.desk.specs.declared.answer.Answer.{Answer}
 use Rattle.desk.specs.declared.answer.Decided.{Decided}
 use Rattle.desk.specs.declared.answer.Swept.{Swept}
+use Rattle.desk.specs.declared.answer.Introspected.{Introspected}
 
 -- the table's number of each row
 abbrev pub numberOf : Refusal → ℕ
@@ -82,3 +83,10 @@ sweptOf f = record { number = done; pushed = f .pushed; consented = f .consented
 
 abbrev pub unswept : Refusal → Swept
 unswept why = record { number = numberOf why; pushed = 0; consented = 0; redeemed = 0 }
+
+-- "The answer is the number and the text's length" (document 02, Q-1)
+abbrev pub introspected : ℕ → Introspected
+introspected n = record { number = done; length = n }
+
+abbrev pub untold : Refusal → Introspected
+untold why = record { number = numberOf why; length = 0 }

@@ -20,8 +20,11 @@ use Rattle.desk.specs.declared.answer.Refusal.{Refusal}
 use Rattle.desk.specs.declared.answer.Refusal.the-variants.{OutputShort, NoReference, RecordExpired, NoHolder, FreshTaken}
 
 -- where the record with this reference and client id is
+abbrev pub waitingPlace : List ℕ → List ℕ → List ℕ → ℕ
+waitingPlace l reference client = place (isReference reference client) (records l)
+
 abbrev pub referencePlace : List ℕ → DecideRequest → ℕ
-referencePlace l d = place (isReference (d .reference) (d .client)) (records l)
+referencePlace l d = waitingPlace l (d .reference) (d .client)
 
 -- the checks, in order, k being that place
 unfoldable pub decideChecks : List ℕ → ℕ → DecideRequest → List ℕ → ℕ → List Check

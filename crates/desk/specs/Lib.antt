@@ -1,4 +1,4 @@
--- The six calls: their answers, their checks in order, and what each does (demands 1 and 2).
+-- The six calls, and the two beside them that only read: their answers, their checks in order, and what each does (demands 1 and 2).
 pub mod Limits
 pub mod Answers
 pub mod Checks
@@ -10,4 +10,6 @@ pub mod Decide
 pub mod Token
 pub mod Resource
 pub mod Sweep
+pub mod Pending
+pub mod Introspect
 pub mod Tests

@@ -35,3 +35,8 @@ pub record ResourceRequest : Type 0 where
   pub presented : List ℕ
   pub scope : ℕ
   pub holder : ℕ
+
+-- beyond document 01: what the holder is shown before she decides, by decide's reference and client id
+pub record PendingRequest : Type 0 where
+  pub reference : List ℕ
+  pub client : List ℕ

@@ -1,6 +1,6 @@
 // The answers, and the rows of the table "Numbers returned".
 ghost use mathlib.Core.Path.{_≡_};
-ghost use Rattle.desk.specs.Answers.{numberOf, answerOf, answerNo, refused, decided, undecided, sweptOf, unswept};
+ghost use Rattle.desk.specs.Answers.{numberOf, answerOf, answerNo, refused, decided, undecided, sweptOf, unswept, introspected, untold};
 use ledger::record::expiry;
 use ledger::record::grant;
 use ledger::record::holder;
@@ -161,6 +161,31 @@ impl Swept {
             pushed: 0,
             consented: 0,
             redeemed: 0,
+        }
+    }
+}
+
+pub struct Introspected {
+    pub number: u8,
+    pub length: usize,
+}
+
+impl Introspected {
+    pub fn with(length: usize) -> Introspected
+        ensures { λ i. ⌜ i ≡ introspected length ⌝ }
+    {
+        Introspected {
+            number: Answer::DONE,
+            length: length,
+        }
+    }
+
+    pub fn refused(why: Refusal) -> Introspected
+        ensures { λ i. ⌜ i ≡ untold why ⌝ }
+    {
+        Introspected {
+            number: why.number(),
+            length: 0,
         }
     }
 }

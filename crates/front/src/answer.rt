@@ -1,6 +1,6 @@
 // The answers as C reads them: the desk's, field by field and in the same order.
 ghost use mathlib.Core.Path.{_≡_};
-ghost use Rattle.front.specs.Seen.{asAnswer, asDecided, asSwept};
+ghost use Rattle.front.specs.Seen.{asAnswer, asDecided, asSwept, asIntrospected};
 
 #[repr(C)]
 pub struct Answer {
@@ -60,6 +60,23 @@ impl Swept {
             pushed: s.pushed,
             consented: s.consented,
             redeemed: s.redeemed,
+        }
+    }
+}
+
+#[repr(C)]
+pub struct Introspected {
+    pub number: u8,
+    pub length: usize,
+}
+
+impl Introspected {
+    pub fn of(i: desk::answer::Introspected) -> Introspected
+        ensures { λ r. ⌜ asIntrospected r ≡ i ⌝ }
+    {
+        Introspected {
+            number: i.number,
+            length: i.length,
         }
     }
 }

@@ -1,4 +1,4 @@
-// Front: the six calls for a web front, exported to C under the names that include/perdigolh.h declares. It rests on the six calls and on desk: each function hands on
+// Front: the six calls and the two that only read, for a web front, exported to C under the names that include/perdigolh.h declares. It rests on the calls and on desk: each function hands on
 // what it is lent and answers the desk's answer in a struct that C can read. Its contract is the desk's equation, read through that struct.
 // Two functions beside the calls tell a caller which release and which interface it has.
 ghost use mathlib.Core.Path.{_≡_};
@@ -9,11 +9,14 @@ ghost use Rattle.desk.specs.Decide.{decide};
 ghost use Rattle.desk.specs.Token.{token};
 ghost use Rattle.desk.specs.Resource.{resource};
 ghost use Rattle.desk.specs.Sweep.{sweep};
-ghost use Rattle.front.specs.Seen.{asAnswer, asDecided, asSwept};
+ghost use Rattle.desk.specs.Pending.{pending};
+ghost use Rattle.desk.specs.Introspect.{introspect};
+ghost use Rattle.front.specs.Seen.{asAnswer, asDecided, asSwept, asIntrospected};
 ghost use Rattle.front.specs.Consent.{consents};
 ghost use Rattle.front.specs.Version.{versionNumber, interfaceNumber};
 use answer::Answer;
 use answer::Decided;
+use answer::Introspected;
 use answer::Swept;
 use choice::Choice;
 use version::Interface;
@@ -129,6 +132,32 @@ pub extern "C" fn perdigolh_sweep(ledger: &mut [u8], time: u64) -> Swept
     ensures { λ r. ⌜ left (asSwept r) (now (ledger .exit)) ≡ sweep (now (ledger .entry)) time ⌝ }
 {
     Swept::of(sweep::sweep(ledger, time))
+}
+
+// The request that waits, in the struct of decide's answer. The ledger is lent to be read only.
+#[no_mangle]
+pub extern "C" fn perdigolh_pending(
+    ledger: &[u8],
+    time: u64,
+    reference: &[u8; 32],
+    client: &[u8; 16],
+    output: &mut [u8],
+) -> Decided
+    ensures { λ r. ⌜ leftWith (asDecided r) (now (ledger .entry)) (now (output .exit)) ≡ pending (now (ledger .entry)) time (record { reference = now (reference .entry); client = now (client .entry) }) (now (output .entry)) ⌝ }
+{
+    Decided::of(pending::pending(ledger, time, reference, client, output))
+}
+
+#[no_mangle]
+pub extern "C" fn perdigolh_introspect(
+    ledger: &[u8],
+    time: u64,
+    token: &[u8; 32],
+    output: &mut [u8],
+) -> Introspected
+    ensures { λ r. ⌜ leftWith (asIntrospected r) (now (ledger .entry)) (now (output .exit)) ≡ introspect (now (ledger .entry)) time (now (token .entry)) (now (output .entry)) ⌝ }
+{
+    Introspected::of(introspect::introspect(ledger, time, token, output))
 }
 
 #[no_mangle]

@@ -45,7 +45,7 @@ module _ (n : ℕ) (good : Good (started n)) where
   tokens-most : (whose : Whose) (cs : List Call) → AllTyped cs → tokens whose (eventsIn n cs) ≤ consents whose (eventsIn n cs)
   tokens-most whose cs y = omega (arith, even-run whose cs y)
 
-  kept-run : (cs : List Call) → AllTyped cs → Kept (lastIn n cs) (eventsIn n cs)
+  pub kept-run : (cs : List Call) → AllTyped cs → Kept (lastIn n cs) (eventsIn n cs)
   kept-run cs y = along Kept kept-step cs (started n) [] good y (kept-start (started n) (inv-start n))
 
   numbers-run : (cs : List Call) → AllTyped cs → Numbered (lastIn n cs) (numbersOf (eventsIn n cs))

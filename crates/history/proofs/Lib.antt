@@ -9,5 +9,6 @@ pub mod Links
 pub mod Invariant
 pub mod Readings
 pub mod Demand3
+pub mod Introspected
 pub mod Begins
 pub mod Example

@@ -12,7 +12,7 @@ use Rattle.octets.specs.Lists.{some, place}
 use Rattle.octets.specs.Parts.{zeros, same}
 use Rattle.octets.proofs.Tests.{both, false-of}
 use Rattle.octets.proofs.Parts.{same-eq, same-refl}
-use Rattle.ledger.specs.Fields.{rec, slots, records, used, grant, value, token as tokenField}
+use Rattle.ledger.specs.Fields.{rec, slots, records, used, grant, client, value, token as tokenField}
 use Rattle.ledger_laws.proofs.Says.{neither, of-sound}
 use Rattle.ledger_laws.proofs.Searches.{first-in}
 use Rattle.desk.specs.Requests.{ResourceRequest}
@@ -72,6 +72,11 @@ module _ (l : List ℕ) (es : List Event) (t : ℕ) (q : ResourceRequest) (k : �
         key = sym (e .key-is) ∙ sym (x .bound);
         verified = rw (p .commits) (x .verified);
       }
+
+  -- the push has the client of the record
+  pub read-client : read-chain .pushed .client ≡ client (rec l k)
+  unfolding read-chain
+  read-client = read-tie .was .was .was .by
 
 -- ---- the reading events of a step
 

@@ -4,4 +4,5 @@ pub mod Events
 pub mod Counts
 pub mod Histories
 pub mod Demand3
+pub mod Introspected
 pub mod Example

@@ -100,7 +100,7 @@ alone-decimal : (n : ℕ) → getD (decimal n) 0 0 ≡ 48 → length (decimal n)
 alone-decimal n e =
     ⊎-elim (λ h. ap length (decimal-one n h)) (λ h. absurd (omega (arith, lead-decimal n .1 (omega arith)))) (lt-or-le n 10)
 
-most-in : (k n : ℕ) → n < 10 ^ suc k → length (decimal n) ≤ suc k
+pub most-in : (k n : ℕ) → n < 10 ^ suc k → length (decimal n) ≤ suc k
 most-in zero n h = let e = ap length (decimal-one n (omega arith)) in omega arith
 most-in (suc k) n h =
     ⊎-elim (λ l. let e = ap length (decimal-one n l) in omega arith)

@@ -77,7 +77,7 @@ decoded-hex (b ∷ bs) o =
     rw (digit-glyph (b / 16) p, digit-glyph (b % 16) q, e, decoded-hex bs (λ i. o (suc i)))
 
 -- what is written is hexadecimal
-hex-digits : (bs : List ℕ) → Octets bs → every isDigit (hex bs) ≡ true
+pub hex-digits : (bs : List ℕ) → Octets bs → every isDigit (hex bs) ≡ true
 unfolding hex
 hex-digits [] o = refl
 hex-digits (b ∷ bs) o =

@@ -13,12 +13,23 @@ pub enum Kind {
     Token,
     Resource,
     Sweep,
+    Pending,
+    Introspect,
 }
 
 impl Kind {
-    pub const ALL: [Kind; 6] = [Kind::Start, Kind::Push, Kind::Decide, Kind::Token, Kind::Resource, Kind::Sweep];
+    pub const ALL: [Kind; 8] = [
+        Kind::Start,
+        Kind::Push,
+        Kind::Decide,
+        Kind::Token,
+        Kind::Resource,
+        Kind::Sweep,
+        Kind::Pending,
+        Kind::Introspect,
+    ];
 
-    /// The numbers that the call can give, in the order of document 01.
+    /// The numbers that the call can give, in the order of the documents.
     pub fn numbers(self) -> &'static [u8] {
         match self {
             Kind::Start => &[1, 0],
@@ -27,6 +38,8 @@ impl Kind {
             Kind::Token => &[1, 2, 3, 4, 13, 5, 14, 15, 11, 16, 7, 0],
             Kind::Resource => &[1, 2, 17, 11, 18, 6, 19, 0],
             Kind::Sweep => &[1, 2, 0],
+            Kind::Pending => &[1, 2, 20, 10, 11, 0],
+            Kind::Introspect => &[1, 2, 20, 0],
         }
     }
 }
@@ -61,7 +74,7 @@ pub struct Outcome {
     pub holder: u64,
     pub scope: u32,
     pub expiry: u64,
-    pub length: u8,
+    pub length: usize,
     pub freed: [usize; 3],
     pub ledger: Vec<u8>,
     pub output: Vec<u8>,
@@ -86,7 +99,7 @@ pub fn second(r: &Request) -> Outcome {
         }
         Kind::Decide => {
             let d = desk::decide(l, r.time, &r.client, &r.value, r.yes == 1, r.holder, &r.fresh, &mut output);
-            Outcome { length: d.redirect_length, ..of(d.answer) }
+            Outcome { length: d.redirect_length.into(), ..of(d.answer) }
         }
         Kind::Token => {
             of(desk::token(l, &r.table, r.time, &r.client, &r.key, &r.presented, &r.value, &r.verifier, &r.fresh))
@@ -96,6 +109,14 @@ pub fn second(r: &Request) -> Outcome {
             let s = desk::sweep(l, r.time);
             let freed = [s.pushed, s.consented, s.redeemed].map(usize::from);
             Outcome { number: s.number, freed, ..Outcome::default() }
+        }
+        Kind::Pending => {
+            let d = desk::pending(l, r.time, &r.client, &r.value, &mut output);
+            Outcome { length: d.redirect_length.into(), ..of(d.answer) }
+        }
+        Kind::Introspect => {
+            let i = desk::introspect(l, r.time, &r.value, &mut output);
+            Outcome { number: i.number, length: i.length, ..Outcome::default() }
         }
     };
     Outcome { ledger, output, ..outcome }
@@ -173,6 +194,7 @@ impl Archive {
         let (client, key, presented) =
             (self.client.pointer().cast(), self.key.pointer().cast(), self.presented.pointer().cast());
         let (value, fresh) = (self.value.pointer().cast(), self.fresh.pointer().cast());
+        let (output, output_length) = (self.output.pointer(), self.output.length());
         let of = |a: raw::Answer| Outcome {
             number: a.number,
             grant: a.grant,
@@ -201,7 +223,6 @@ impl Archive {
                     fresh,
                 )),
                 Kind::Decide => {
-                    let (output, output_length) = (self.output.pointer(), self.output.length());
                     let d = raw::perdigolh_decide(
                         ledger,
                         ledger_length,
@@ -214,7 +235,7 @@ impl Archive {
                         output,
                         output_length,
                     );
-                    Outcome { length: d.length, ..of(d.answer) }
+                    Outcome { length: d.length.into(), ..of(d.answer) }
                 }
                 Kind::Token => of(raw::perdigolh_token(
                     ledger,
@@ -237,6 +258,14 @@ impl Archive {
                     let s = raw::perdigolh_sweep(ledger, ledger_length, r.time);
                     let freed = [s.pushed, s.consented, s.redeemed];
                     Outcome { number: s.number, freed, ..Outcome::default() }
+                }
+                Kind::Pending => {
+                    let d = raw::perdigolh_pending(ledger, ledger_length, r.time, value, client, output, output_length);
+                    Outcome { length: d.length.into(), ..of(d.answer) }
+                }
+                Kind::Introspect => {
+                    let i = raw::perdigolh_introspect(ledger, ledger_length, r.time, value, output, output_length);
+                    Outcome { number: i.number, length: i.length, ..Outcome::default() }
                 }
             }
         }

@@ -4,6 +4,7 @@
 //! off the ledger, so that most calls get far. What is spoilt is the ledger, the table, the request or the output.
 
 use second::base64url::s256;
+use second::description;
 use second::ledger::{self, field::*, head, state, Record};
 use second::limits::form::{
     CHALLENGE_CHARACTERS, MAX_REDIRECT, MAX_VERIFIER, MIN_REDIRECT, MIN_VERIFIER, OUTPUT_BYTES,
@@ -66,6 +67,9 @@ impl World {
             Kind::Resource,
             Kind::Resource,
             Kind::Sweep,
+            Kind::Pending,
+            Kind::Introspect,
+            Kind::Introspect,
         ]);
         let mut request = self.in_order(kind, chance);
         let mut own = kind != Kind::Start || chance.once_in(50);
@@ -107,7 +111,7 @@ impl World {
     fn in_order(&self, kind: Kind, chance: &mut Chance) -> Request {
         let mut own: Vec<&[u8]> = self.table.chunks(CLIENT_BYTES).collect();
         let wanted = match kind {
-            Kind::Decide => &[state::PUSHED][..],
+            Kind::Decide | Kind::Pending => &[state::PUSHED][..],
             Kind::Token if chance.once_in(6) => &[state::REDEEMED],
             Kind::Token => &[state::CONSENTED],
             _ => &[state::REDEEMED],
@@ -121,7 +125,7 @@ impl World {
         let challenge = record.map(|r| r[CHALLENGE].to_vec());
         let verifier = self.verifiers.iter().find(|v| challenge.as_deref() == Some(&s256(v)[..]));
         let verifier = verifier.cloned().unwrap_or_else(|| chance.one_of(&self.verifiers));
-        let value = if kind == Kind::Resource { TOKEN } else { VALUE };
+        let value = if matches!(kind, Kind::Resource | Kind::Introspect) { TOKEN } else { VALUE };
         let redirect_length = MIN_REDIRECT + chance.below(MAX_REDIRECT - MIN_REDIRECT + 1);
         let permitted = u32::from_be_bytes(client[48..52].try_into().unwrap());
         let granted = record.map_or(permitted, |r| u32::from_be_bytes(r[SCOPE].try_into().unwrap()));
@@ -131,7 +135,7 @@ impl World {
             kind,
             ledger: self.ledger.clone(),
             table: self.table.clone(),
-            output: vec![chance.byte(); OUTPUT_BYTES + chance.one_of(&[0, 0, 1, 70])],
+            output: vec![chance.byte(); output_length(kind, record, chance)],
             time: self.time(record, chance),
             client: client[..16].try_into().unwrap(),
             key: client[16..48].try_into().unwrap(),
@@ -144,7 +148,7 @@ impl World {
             scope: if narrowed == 0 { bits } else { narrowed },
             holder: match (kind, record) {
                 (Kind::Resource, Some(r)) => ledger::number(&r[HOLDER]),
-                _ => chance.one_of(&[1, 7, 1 << 32, u64::MAX]),
+                _ => chance.one_of(&[1, 7, 10, 1 << 32, u64::MAX]),
             },
             yes: chance.one_of(&[1, 1, 1, 0]),
             challenge: s256(&chance.one_of(&self.verifiers)).to_vec(),
@@ -261,6 +265,15 @@ impl World {
             ),
         }
     }
+}
+
+/// Long enough, and for introspect, whose texts differ in length, one byte too short as often as not.
+fn output_length(kind: Kind, record: Option<&Record>, chance: &mut Chance) -> usize {
+    if kind != Kind::Introspect {
+        return OUTPUT_BYTES + chance.one_of(&[0, 0, 1, 70]);
+    }
+    let text = record.map_or(description::INACTIVE.len(), |record| description::of(record).len());
+    chance.one_of(&[text, text, text - 1, text + 1, description::INACTIVE.len(), TEXT_ROOM])
 }
 
 fn client(chance: &mut Chance) -> [u8; CLIENT_BYTES] {

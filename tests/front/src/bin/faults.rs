@@ -9,6 +9,7 @@ use front_tests::beside::{second, Archive, Kind, Request};
 use front_tests::chance::Chance;
 use front_tests::lent::Place;
 use front_tests::world::{World, LEDGER_ROOM, TABLE_ROOM};
+use second::description;
 
 const GATE_COUNT: usize = 60_000;
 const ENOUGH_FOR_ALL: usize = 20_000;
@@ -22,7 +23,7 @@ fn main() -> ExitCode {
     let mut archive = Archive::with_room(LEDGER_ROOM, TABLE_ROOM);
     let mut world = World::new(&mut chance);
     let mut tried = [[Cell::default(); NUMBERS]; Kind::ALL.len()];
-    let mut shown = 0;
+    let (mut shown, mut live) = (0, 0);
     for place in 0..count {
         let (request, own) = world.request(&mut chance);
         let expected = second(&request);
@@ -37,11 +38,12 @@ fn main() -> ExitCode {
                 show(place, &request, &format!("{outcome:?}"), &format!("{expected:?}"));
             }
         }
+        live += usize::from(request.kind == Kind::Introspect && expected.length > description::INACTIVE.len());
         if own && expected.number == 0 {
             world.keep(expected);
         }
     }
-    if report(&tried, count) {
+    if report(&tried, live, count) {
         ExitCode::SUCCESS
     } else {
         ExitCode::FAILURE
@@ -63,19 +65,22 @@ fn chance_place(chance: &mut Chance) -> Place {
     }
 }
 
-/// Prints how often each number came up and the tally, one test a number of a call.
-fn report(tried: &[[Cell; NUMBERS]], count: usize) -> bool {
-    let (mut passed, mut failed, mut wrong) = (0, 0, 0);
+/// Prints how often each number came up and the tally, one test a number of a call, and one that texts of live tokens came up.
+fn report(tried: &[[Cell; NUMBERS]], live: usize, count: usize) -> bool {
+    let mut wrong = 0;
+    let mut failed = usize::from(live == 0 && count >= ENOUGH_FOR_ALL);
+    let mut passed = 1 - failed;
     for (kind, cells) in Kind::ALL.iter().zip(tried) {
         let own = kind.numbers().iter().map(|&n| (n, cells[usize::from(n)]));
         let words: Vec<String> = own.clone().map(|(n, cell)| format!("{n}:{}", cell.calls)).collect();
-        println!("{:<9}{}", format!("{kind:?}").to_lowercase(), words.join(" "));
+        println!("{:<11}{}", format!("{kind:?}").to_lowercase(), words.join(" "));
         let bad = |cell: &Cell| cell.wrong > 0 || (cell.calls == 0 && count >= ENOUGH_FOR_ALL);
         let bads = own.filter(|(_, cell)| bad(cell)).count();
         failed += bads;
         passed += kind.numbers().len() - bads;
         wrong += cells.iter().map(|cell| cell.wrong).sum::<usize>();
     }
+    println!("{live} texts of live tokens");
     println!("{count} calls tried, {} as the second program's, {wrong} not", count - wrong);
     println!("{passed} passed, {failed} failed");
     failed == 0

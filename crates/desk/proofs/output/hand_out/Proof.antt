@@ -1,6 +1,6 @@
-use Rattle.decide.proofs.hand_out.Statement.{statement}
+use Rattle.desk.proofs.output.hand_out.Statement.{statement}
 use borrow.Author.Needs.{needs}
-use Rattle.decide.proofs.hand_out.Tie as tie
+use Rattle.desk.proofs.output.hand_out.Tie as tie
 
 returns : tie.Need-returns
 returns c = cc

@@ -1,0 +1,2 @@
+-- What the text is by what was found, and what its writer's answer says.
+pub mod Texts
