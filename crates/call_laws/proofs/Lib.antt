@@ -3,5 +3,6 @@ pub mod Rows
 pub mod Readings
 pub mod Facts
 pub mod Alone
+pub mod Profile
 pub mod Keeping
 pub mod Accepting

@@ -1,3 +1,4 @@
--- Acceptance in plain words.
+-- Acceptance in plain words, and the limit of the profile.
 pub mod Conditions
 pub mod Accepted
+pub mod Profile

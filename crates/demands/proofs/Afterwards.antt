@@ -41,7 +41,7 @@ use Rattle.desk.specs.Limits.{outputLeast}
 use Rattle.desk.specs.Answers.{done}
 use Rattle.desk.specs.Requests.{PushRequest, DecideRequest, TokenRequest, ResourceRequest}
 use Rattle.desk.specs.Start.{emptyLedger}
-use Rattle.desk.specs.Push.{pushRecord, pushAt}
+use Rattle.desk.specs.Push.{clientRecord, pushRecord, pushAt}
 use Rattle.desk.specs.Decide.{referencePlace, handedOut, consentRecord, consentAt, declineAt, decideAt}
 use Rattle.desk.specs.Token.{codePlace, tokenRecord, tokenAt}
 use Rattle.desk.specs.Resource.{tokenPlace}
@@ -151,22 +151,22 @@ module _ (l : List ℕ) (t : ℕ) (table : List ℕ) (p : PushRequest) where
   push-record f = length-pushed _ _ _ _ _ _ _ (rec l room-place) ∙ rec-length l room-place (first-in isFree l (f .room) .inside)
 
   -- an id that a table has is 16 bytes long, and a free record is all zeros
-  push-entered : PushFacts l t table p → length (p .fresh) ≡ valueLong → Entered l t p (rec l room-place) (pushRecord l t table p (rec l room-place))
+  push-entered : PushFacts l t table p → length (p .fresh) ≡ valueLong → Entered l t (clientRecord table p) p (rec l room-place) (pushRecord l t table p (rec l room-place))
   unfolding pushRecord
   push-entered f v =
       let x = first-in isFree l (f .room) in
       let y = known-is table (p .client) (p .key) (f .known) in
       let i : length (p .client) ≡ 16 = ap length (sym (y .id-is)) ∙ field-length table (placeOf table (p .client)) (y .inside) idSpan (omega arith) in
       let (a, b) = both (redirectFormed (p .redirect)) (challengeFormed (p .challenge)) (f .formed) in
-      entered l t p (rec l room-place) i (challenge-length (p .challenge) b) v (redirect-length (p .redirect) a .1) (rec-length l room-place (x .inside))
+      entered l t (clientRecord table p) p (rec l room-place) i (challenge-length (p .challenge) b) v (redirect-length (p .redirect) a .1) (rec-length l room-place (x .inside))
       (ap zeros (free-found l (f .ledger-sound) room-place (x .inside) (x .passes)) ∙ zeros-free)
 
-  pub after-push : leaves l table (push t p) .number ≡ done → AfterPush l t p (leaves l table (push t p))
+  pub after-push : leaves l table (push t p) .number ≡ done → AfterPush l t table p (leaves l table (push t p))
   unfolding pushAt
   after-push e₀ =
       push-cases l t table p
       (λ o. (Bytes l → nextNumber (o .ledger) ≡ nextNumber l + 1) → o .answer .number ≡ done
-      → AfterPush l t p (record { number = o .answer .number; beside = four (o .answer); ledger = o .ledger; output = [] }))
+      → AfterPush l t table p (record { number = o .answer .number; beside = four (o .answer); ledger = o .ledger; output = [] }))
       (λ why u rises e. absurd (number-refused why e))
       (λ ok rises e.
       let f = push-facts l t table p ok in
@@ -177,6 +177,8 @@ module _ (l : List ℕ) (t : ℕ) (table : List ℕ) (p : PushRequest) where
       record {
         k = room-place;
         place = free-stands l room-place .0 x;
+        clientPlace = placeOf table (p .client);
+        known = known-is table (p .client) (p .key) (f .known);
         written = λ v. rw here (push-entered f v);
         others = two-others t l room-place r (x .inside) n (nextNumber l + 1);
         next-is = two-next t l room-place r (x .inside) n (nextNumber l + 1);

@@ -18,7 +18,7 @@ allowed l table (token t q) = token-accepted l t table q
 allowed l table (resource t q) = resource-accepted l t q
 allowed l table (sweep t) = sweep-accepted l t
 
-after : (l table : List ℕ) (c : Call) → leaves l table c .number ≡ done → After l c (leaves l table c)
+after : (l table : List ℕ) (c : Call) → leaves l table c .number ≡ done → After l table c (leaves l table c)
 after l table start = after-start l
 after l table (push t p) = after-push l t table p
 after l table (decide t d out) = after-decide l t d out
