@@ -1,5 +1,5 @@
 //! The independent second program: the permissions desk of document 01 in plain Rust.
-//! Written from document 01 alone and resting on the standard library alone; the proved desk is compared with it.
+//! Written from documents 01 and 02 alone and resting on the standard library alone; the proved desk is compared with it.
 
 pub mod base64url;
 pub mod desk;
