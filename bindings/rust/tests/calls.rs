@@ -40,8 +40,8 @@ impl World {
     fn at(far: Far) -> World {
         let mut bytes = vec![0xff; ledger_bytes(2)];
         Ledger::start(&mut bytes).unwrap();
-        let mut table = client_record(BUYER, KEY, 5).to_vec();
-        table.extend(client_record(OTHER, KEY, 5));
+        let mut table = client_record(BUYER, KEY, 5, 599).to_vec();
+        table.extend(client_record(OTHER, KEY, 5, 0));
         let mut world = World { bytes, table, output: vec![0xcc; OUTPUT_LEAST + 6] };
         if far >= Far::Pushed {
             world.push(1000, PUSH).unwrap();
