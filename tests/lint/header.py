@@ -31,7 +31,8 @@ CONSTANTS = [
     ("CHALLENGE_LENGTH", "forms/src/lib.rt", "Challenge::LENGTH"),
     ("VERIFIER_LEAST", "forms/src/lib.rt", "Verifier::LEAST"),
     ("VERIFIER_MOST", "forms/src/lib.rt", "Verifier::MOST"),
-    ("REFERENCE_LIFETIME", "ledger/src/limit.rt", "Reference::LIFETIME"),
+    ("REFERENCE_LIFETIME", "clients/src/lifetime.rt", "Reference::LIFETIME"),
+    ("REFERENCE_MOST", "clients/src/lifetime.rt", "Reference::MOST"),
     ("CODE_LIFETIME", "ledger/src/limit.rt", "Code::LIFETIME"),
     ("TOKEN_LIFETIME", "ledger/src/limit.rt", "Token::LIFETIME"),
     ("TIME_LIMIT", "ledger/src/limit.rt", "Clock::LIMIT"),
@@ -181,6 +182,7 @@ SPOILS = [
     (HEADER, "    uint64_t holder;\n    uint32_t scope;\n", "    uint32_t scope;\n    uint64_t holder;\n"),
     (HEADER, "size_t consented;", "uint32_t consented;"),
     (HEADER, "#define PERDIGOLH_CODE_LIFETIME 60", "#define PERDIGOLH_CODE_LIFETIME 61"),
+    (HEADER, "#define PERDIGOLH_REFERENCE_LIFETIME 90", "#define PERDIGOLH_REFERENCE_LIFETIME 599"),
     (HEADER, "PERDIGOLH_YES 1", "PERDIGOLH_YES 2"),
     (HEADER, "PERDIGOLH_NO 0", "PERDIGOLH_NO 1"),
     (HEADER, "#define PERDIGOLH_NO 0\n", ""),
@@ -189,6 +191,7 @@ SPOILS = [
     (RAW, "presented: *const [u8; 32],\n        code", "code: *const [u8; 32],\n        presented"),
     (RAW, "    pub expiry: u64,\n", ""),
     (LIBRARY, "TOKEN_LIFETIME: u64 = 300", "TOKEN_LIFETIME: u64 = 301"),
+    (LIBRARY, "REFERENCE_MOST: u64 = 599", "REFERENCE_MOST: u64 = 600"),
 ]
 
 
