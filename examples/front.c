@@ -236,7 +236,7 @@ int main(int count, char **words) {
     memset(buyer, 0xa1, sizeof buyer);
     memset(key, 0xa2, sizeof key);
     memset(presented, 0xee, sizeof presented);
-    perdigolh_client_record(table, buyer, key, weights | 1);
+    perdigolh_client_record(table, buyer, key, weights | 1, 0);
 
     start(&s);
     draw(reference);

@@ -77,8 +77,10 @@ __attribute__((used)) static uint32_t (*const perdigolh_interface_asked)(void) =
 /* Time, in whole seconds, stays below this. */
 #define PERDIGOLH_TIME_LIMIT 1099511627776 /* 2^40 */
 
-/* Seconds that a reference, a code and a token live: each is expired once `time` is at or past its expiry. */
-#define PERDIGOLH_REFERENCE_LIFETIME 599
+/* Seconds that a reference, a code and a token live: each is expired once `time` is at or past its expiry. How long a reference
+ * lives, its client's record says: PERDIGOLH_REFERENCE_LIFETIME where it says 0, PERDIGOLH_REFERENCE_MOST at most. */
+#define PERDIGOLH_REFERENCE_LIFETIME 90
+#define PERDIGOLH_REFERENCE_MOST 599
 #define PERDIGOLH_CODE_LIFETIME 60
 #define PERDIGOLH_TOKEN_LIFETIME 300
 
@@ -157,14 +159,16 @@ _Static_assert(sizeof(perdigolh_answer) == 40 && sizeof(perdigolh_decided) == 48
  *   0..16  client id, not all zeros, no two alike
  *   16..48 thumbprint of the key by which the program authenticates, not all zeros; two clients may share one
  *   48..52 permitted scope bits, big-endian; 0 means that every scope is refused
- *   52..64 zeros
+ *   52..54 seconds that its references live, big-endian: 1 to PERDIGOLH_REFERENCE_MOST; 0 means PERDIGOLH_REFERENCE_LIFETIME
+ *   54..64 zeros
  *
  * A table that is not so answers 3. It is the front's own, is lent at push and token, and may be another at each call.
  */
 
-/* Writes a client's record. */
+/* Writes a client's record. A lifetime of 0 means PERDIGOLH_REFERENCE_LIFETIME; a table with one above PERDIGOLH_REFERENCE_MOST
+ * answers 3. */
 static inline void perdigolh_client_record(uint8_t record[PERDIGOLH_CLIENT_SIZE], const uint8_t client[PERDIGOLH_CLIENT_ID_SIZE],
-                                           const uint8_t key[PERDIGOLH_KEY_SIZE], uint32_t permitted) {
+                                           const uint8_t key[PERDIGOLH_KEY_SIZE], uint32_t permitted, uint16_t lifetime) {
     size_t i;
     for (i = 0; i < PERDIGOLH_CLIENT_SIZE; i++) {
         record[i] = 0;
@@ -178,6 +182,8 @@ static inline void perdigolh_client_record(uint8_t record[PERDIGOLH_CLIENT_SIZE]
     for (i = 0; i < 4; i++) {
         record[48 + i] = (uint8_t)(permitted >> (24 - 8 * i));
     }
+    record[52] = (uint8_t)(lifetime >> 8);
+    record[53] = (uint8_t)lifetime;
 }
 
 /*

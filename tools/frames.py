@@ -11,11 +11,12 @@ KINDS = {
     "token": (3, [("now", 8), ("client", 16), ("auth", 32), ("key", 32), ("code", 32), ("fresh", 32), ("verifier", None)]),
     "resource": (4, [("now", 8), ("token", 32), ("key", 32), ("scope", 4), ("holder", 8)]),
     "sweep": (5, [("now", 8)]),
-    "client": (6, [("client", 16), ("auth", 32), ("permitted", 4), ("zero", 12)]),
+    "client": (6, [("client", 16), ("auth", 32), ("permitted", 4), ("lifetime", 2), ("zero", 10)]),
 }
 NAMES = {byte: name for name, (byte, _) in KINDS.items()}
-NUMBERS = {"slots", "now", "scope", "yes", "holder", "permitted"}
+NUMBERS = {"slots", "now", "scope", "yes", "holder", "permitted", "lifetime"}
 TEXTS = {"challenge", "redirect", "verifier"}
+UNSAID = {"lifetime": 0, "zero": bytes(10)}  # what a frame has where nothing is said
 
 WORDS = {
     0: "done",
@@ -59,7 +60,7 @@ def frame(kind, **fields):
     byte, layout = KINDS[kind]
     parts = [bytes([byte])]
     for name, width in layout:
-        value = fields.pop(name, bytes(12) if name == "zero" else None)
+        value = fields.pop(name, UNSAID.get(name))
         if value is None:
             raise ValueError(f"{kind} needs {name}=")
         if isinstance(value, int):
@@ -160,7 +161,7 @@ def show(line):
     if found is None:
         return None
     kind, fields = found
-    return " ".join([kind] + [f"{name}={told(name, value)}" for name, value in fields.items() if name != "zero" or any(value)])
+    return " ".join([kind] + [f"{name}={told(name, value)}" for name, value in fields.items() if value != UNSAID.get(name)])
 
 
 def say(line, kind=None):

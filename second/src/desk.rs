@@ -131,9 +131,9 @@ pub fn push(
 ) -> Answer {
     let mut call = || -> Result<Answer, Refusal> {
         check_ledger(ledger, now)?;
-        let permitted = check_client(table, client, auth_key)?.permitted();
+        let known = check_client(table, client, auth_key)?;
         ensure(form::redirect_ok(redirect) && form::challenge_ok(challenge), Refusal::IllFormed)?;
-        ensure(within(scope, permitted), Refusal::ScopeOutside)?;
+        ensure(within(scope, known.permitted()), Refusal::ScopeOutside)?;
         check_fresh(ledger, fresh)?;
         let place = find(ledger, |record| record[STATE] == state::FREE);
         let place = place.ok_or(Refusal::NoFreeRecord)?;
@@ -147,7 +147,7 @@ pub fn push(
         record[REDIRECT_LENGTH] = redirect.len() as u8;
         record[SCOPE].copy_from_slice(&scope.to_be_bytes());
         record[GRANT].copy_from_slice(&grant.to_be_bytes());
-        record[EXPIRY].copy_from_slice(&(now + REFERENCE_LIFETIME).to_be_bytes());
+        record[EXPIRY].copy_from_slice(&(now + known.lifetime()).to_be_bytes());
         record[CLIENT].copy_from_slice(client);
         record[CHALLENGE].copy_from_slice(challenge);
         record[VALUE].copy_from_slice(fresh);

@@ -6,7 +6,10 @@ pub mod time {
     pub const CLOCK_END: u64 = 1 << 40;
     /// An expiry stays below this.
     pub const EXPIRY_END: u64 = 1 << 41;
-    pub const REFERENCE_LIFETIME: u64 = 599;
+    /// For a client whose record says 0.
+    pub const REFERENCE_LIFETIME: u64 = 90;
+    /// The most that a client's record may say.
+    pub const MAX_REFERENCE_LIFETIME: u16 = 599;
     pub const CODE_LIFETIME: u64 = 60;
     pub const TOKEN_LIFETIME: u64 = 300;
 }

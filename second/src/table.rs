@@ -1,6 +1,7 @@
 //! The client table: 1 to 64 records of 64 bytes, lent and only read.
 
 use crate::limits::table::{CLIENT_BYTES, MAX_CLIENTS};
+use crate::limits::time::{MAX_REFERENCE_LIFETIME, REFERENCE_LIFETIME};
 
 #[derive(Clone, Copy)]
 pub struct Client<'a>(&'a [u8; CLIENT_BYTES]);
@@ -18,8 +19,23 @@ impl<'a> Client<'a> {
         u32::from_be_bytes(self.0[48..52].try_into().unwrap())
     }
 
+    /// The seconds that its references live (document 02, Q-2).
+    pub fn lifetime(self) -> u64 {
+        match self.said_lifetime() {
+            0 => REFERENCE_LIFETIME,
+            seconds => seconds.into(),
+        }
+    }
+
+    fn said_lifetime(self) -> u16 {
+        u16::from_be_bytes(self.0[52..54].try_into().unwrap())
+    }
+
     fn sound(self) -> bool {
-        *self.id() != [0; 16] && *self.auth_key() != [0; 32] && self.0[52..] == [0; 12]
+        *self.id() != [0; 16]
+            && *self.auth_key() != [0; 32]
+            && self.said_lifetime() <= MAX_REFERENCE_LIFETIME
+            && self.0[54..] == [0; 10]
     }
 }
 

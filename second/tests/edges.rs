@@ -24,6 +24,25 @@ fn p2_p3_lengths_of_a_ledger() {
     }
 }
 
+/// The push at 1,000 of a client whose record says this lifetime.
+fn pushed_saying(lifetime: u16) -> Desk {
+    let mut desk = Desk::started(2);
+    let others = client_saying(B, B_KEY, 2, 599);
+    desk.table = [others, client_saying(A, A_KEY, 5, lifetime)].concat();
+    assert_eq!(desk.push(&Push::default()).number, 0);
+    desk
+}
+
+#[test]
+fn last_second_of_a_reference_by_the_record() {
+    for (lifetime, seconds) in [(0, 90), (1, 1), (2, 2), (89, 89), (90, 90), (256, 256), (599, 599)] {
+        for (now, number) in [(999 + seconds, 0), (1000 + seconds, 11)] {
+            let decided = pushed_saying(lifetime).decide(&Decide { now, ..Decide::default() });
+            assert_eq!(decided.answer.number, number, "{lifetime}");
+        }
+    }
+}
+
 #[test]
 fn p4_last_second_of_a_reference() {
     for (now, number) in [(1598, 0), (1599, 11)] {

@@ -1,4 +1,4 @@
-//! Number 1 sentence by sentence of document 01's "Ledger", number 3 of its "Client table".
+//! Number 1 sentence by sentence of document 01's "Ledger", number 3 of its "Client table" and of document 02, Q-2.
 
 mod common;
 use common::*;
@@ -171,7 +171,14 @@ fn the_client_table() {
     assert_eq!(with(client(B, A_KEY, 1)), [0, 0], "two clients may share a key");
     assert_eq!(with(client(B, B_KEY, 0)), [0, 0]);
     assert_eq!(numbers_with(client(A, A_KEY, 0)), [6, 0], "permitted bits matter at push alone");
-    for byte in 52..64 {
+    for lifetime in [0, 1, 90, 255, 256, 598, 599] {
+        assert_eq!(with(client_saying(B, B_KEY, 1, lifetime)), [0, 0], "{lifetime}");
+    }
+    for lifetime in [600, 601, 0x0300, 0x5702, 0x8000, u16::MAX] {
+        assert_eq!(with(client_saying(B, B_KEY, 1, lifetime)), [3, 3], "{lifetime}");
+        assert_eq!(numbers_with(client_saying(A, A_KEY, 5, lifetime)), [3, 3], "{lifetime}");
+    }
+    for byte in 54..64 {
         let mut other = client(B, B_KEY, 1);
         other[byte] = 1;
         assert_eq!(with(other), [3, 3]);

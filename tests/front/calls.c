@@ -202,6 +202,7 @@ static void begin(size_t records) {
         memset(clients + i * PERDIGOLH_CLIENT_SIZE + 16, 0xa2, 32);
         clients[i * PERDIGOLH_CLIENT_SIZE + 51] = 5;
     }
+    clients[52] = 0x02, clients[53] = 0x57; /* the first is a harbour kiosk: 599 seconds */
     guard_end(ledger);
     guard_end(table);
     guard_end(output);
@@ -310,6 +311,25 @@ static void push_refused(void) {
     REFUSED(push(in_order(5, 0, REFERENCE)), PERDIGOLH_TABLE_UNSOUND);
     lent(ledger)[16] = 1;
     REFUSED(push(in_order(5, 0, REFERENCE)), PERDIGOLH_LEDGER_UNSOUND);
+}
+
+/* The builder writes the lifetime; a reference lives so long, 0 meaning 90; 600 answers 3 to everybody. */
+static void lives(void) {
+    static const struct { uint16_t said; uint64_t seconds; } lifetimes[] = {{0, 90}, {1, 1}, {90, 90}, {256, 256}, {599, 599}};
+    uint8_t client[16], key[32];
+    memset(client, 0xa1, sizeof client), memset(key, 0xa2, sizeof key);
+    for (size_t i = 0; i < sizeof lifetimes / sizeof *lifetimes; i++) {
+        begin(1);
+        perdigolh_client_record(lent(table), client, key, 5, lifetimes[i].said);
+        EXPECT(lent(table)[51] == 5 && lent(table)[52] == lifetimes[i].said / 256 && lent(table)[53] == lifetimes[i].said % 256);
+        EXPECT(is(push(in_order(1000, 0, REFERENCE)), 1, 0, 4, 1000 + lifetimes[i].seconds));
+        REFUSED(undecided(in_order(1000 + lifetimes[i].seconds, REFERENCE, CODE)), PERDIGOLH_RECORD_EXPIRED);
+        EXPECT(decide(in_order(999 + lifetimes[i].seconds, REFERENCE, CODE)).answer.number == PERDIGOLH_DONE);
+    }
+    begin(1);
+    perdigolh_client_record(lent(table) + PERDIGOLH_CLIENT_SIZE, key, key, 5, PERDIGOLH_REFERENCE_MOST + 1);
+    REFUSED(push(in_order(1000, 0, REFERENCE)), PERDIGOLH_TABLE_UNSOUND);
+    REFUSED(token(in_order(1000, CODE, TOKEN)), PERDIGOLH_TABLE_UNSOUND);
 }
 
 static void decide_refused(void) {
@@ -494,6 +514,7 @@ int main(void) {
     chosen();
     declined();
     push_refused();
+    lives();
     decide_refused();
     token_refused();
     resource_refused();

@@ -1,7 +1,7 @@
 #!/usr/bin/env python3
 """Writes the stored streams of tests/data/lines/ with the answers of the second program: tests/generators/make_lines.py SECOND
 
-Beside every line stands the number that document 01 gives it; an answer with another number stops the writing.
+Beside every line stands the number that documents 01 and 02 give it; an answer with another number stops the writing.
 The example's answers are document 01's own text.
 """
 import shlex
@@ -27,8 +27,9 @@ def start(slots):
     return frame("start", slots=slots)
 
 
-def client(ident=A, auth=A_KEY, permitted=5, zero=bytes(12)):
-    return frame("client", client=ident, auth=auth, permitted=permitted, zero=zero)
+def client(ident=A, auth=A_KEY, permitted=5, lifetime=599):
+    """A harbour kiosk, but where another lifetime is given."""
+    return frame("client", client=ident, auth=auth, permitted=permitted, lifetime=lifetime)
 
 
 def push(now=1000, **changed):
@@ -137,7 +138,7 @@ TWO_HUNDRED_SLOTS = [
 
 
 def numbered(i):
-    return client(bytes([i]) * 16, bytes([i ^ 0xff]) * 32, 4)
+    return client(bytes([i]) * 16, bytes([i ^ 0xff]) * 32, 4, 0)
 
 
 def push_of(i, fresh):
@@ -153,9 +154,39 @@ CLIENTS_65 = [
     (push_of(64, 3), 0), (start(1), 0), (numbered(66), 3), (push_of(1, 1), 0),
 ]
 
+# Document 02, Q-2: clients that say 599, 1 and 0, the last good second of each one's reference and the one after it; then one that says 600.
+KIOSK, QUICK, PLAIN = 0x61, 0x62, 0x63
+
+
+def of(i, **changed):
+    return dict(client=bytes([i]) * 16, auth=bytes([i ^ 0xff]) * 32) | changed
+
+
+def saying(i, lifetime):
+    return client(**{"ident": bytes([i]) * 16, "auth": bytes([i ^ 0xff]) * 32}, lifetime=lifetime)
+
+
+def decide_of(i, now, **changed):
+    return decide(now=now, client=bytes([i]) * 16, reference=value(i), **dict(fresh=value(i + 100)) | changed)
+
+
+LIFETIMES = [
+    (start(3), 0), (saying(KIOSK, 599), 0), (saying(QUICK, 1), 0), (saying(PLAIN, 0), 0),
+    *((push(**of(i, fresh=value(i))), 0) for i in (KIOSK, QUICK, PLAIN)),
+    (decide_of(QUICK, 1001), 11), (decide_of(QUICK, 1000), 0),
+    (decide_of(PLAIN, 1090), 11), (decide_of(PLAIN, 1089), 0),
+    (decide_of(KIOSK, 1599), 11), (sweep(1598), 0), (decide_of(KIOSK, 1598), 0), (sweep(1658), 0),
+    (push(now=1700, **of(PLAIN, fresh=value(1))), 0), (push(now=1700, **of(QUICK, fresh=value(2))), 0),
+    (sweep(1700), 0), (sweep(1701), 0), (sweep(1789), 0), (sweep(1790), 0),
+    (push(now=1800, **of(KIOSK, fresh=value(3))), 0), (saying(0x64, 600), 0),
+    (push(now=1800, **of(PLAIN, fresh=value(4))), 3), (push(now=1800, **of(0x64, fresh=value(4))), 3),
+    (token(now=1800, **of(PLAIN)), 3), (decide(now=2398, client=bytes([KIOSK]) * 16, reference=value(3)), 0), (sweep(2458), 0),
+]
+
 STREAMS = {
     "example": EXAMPLE, "malformed": MALFORMED, "grant": GRANT, "one-slot": ONE_SLOT,
     "two-hundred-slots": TWO_HUNDRED_SLOTS, "64-clients": CLIENTS_64, "65-clients": CLIENTS_65,
+    "lifetimes": LIFETIMES,
 }
 
 

@@ -14,7 +14,7 @@ sys.path.insert(0, str(Path(__file__).resolve().parents[2] / "tools"))
 from frames import KINDS, frame, s256  # noqa: E402
 
 CLOCK_END = 1 << 40
-REFERENCE_LIFETIME, CODE_LIFETIME, TOKEN_LIFETIME = 599, 60, 300
+REFERENCE_LIFETIME, MAX_REFERENCE_LIFETIME, CODE_LIFETIME, TOKEN_LIFETIME = 90, 599, 60, 300
 MAX_SLOTS, MAX_CLIENTS, MAX_DIGITS = 200, 64, 640
 NO_FRAME = 0xff
 
@@ -47,7 +47,7 @@ PROFILES = {
     "end of time": dict(slots=(2, 8), clients=(1, 3), late_clock=True),
 }
 # What makes a client record unsound, in turn.
-UNSOUND = ["id all zeros", "key all zeros", "last bytes not zero", "id of another"]
+UNSOUND = ["id all zeros", "key all zeros", "last bytes not zero", "id of another", "lifetime above the most"]
 
 
 @dataclass
@@ -153,10 +153,11 @@ class Maker:
             ident = flip(self.rng, self.rng.choice(self.clients)[0])
         if any(ident == client[0] for client in self.clients):
             return
-        self.append_client(ident, key, permitted, bytes(12))
+        lifetime = self.rng.choice([0, 0, 1, 2, REFERENCE_LIFETIME, MAX_REFERENCE_LIFETIME, MAX_REFERENCE_LIFETIME, self.rng.randint(1, MAX_REFERENCE_LIFETIME)])
+        self.append_client(ident, key, permitted, lifetime, bytes(10))
 
     def unsound_client(self):
-        ident, key, zero = self.rng.randbytes(16), self.rng.randbytes(32), bytes(12)
+        ident, key, lifetime, zero = self.rng.randbytes(16), self.rng.randbytes(32), 0, bytes(10)
         if self.unsound == "id all zeros":
             ident = bytes(16)
         elif self.unsound == "key all zeros":
@@ -165,21 +166,23 @@ class Maker:
             zero = flip(self.rng, zero)
         elif self.unsound == "id of another":
             ident = self.rng.choice(self.clients)[0]
+        elif self.unsound == "lifetime above the most":
+            lifetime = self.rng.choice([MAX_REFERENCE_LIFETIME + 1, 0x5702, 0xffff, self.rng.randint(MAX_REFERENCE_LIFETIME + 1, 0xffff)])
         self.sound = len(self.clients) == MAX_CLIENTS
-        self.append_client(ident, key, 5, zero)
+        self.append_client(ident, key, 5, lifetime, zero)
 
-    def append_client(self, ident, key, permitted, zero):
+    def append_client(self, ident, key, permitted, lifetime, zero):
         room = len(self.clients) < MAX_CLIENTS
         if room:
-            self.clients.append((ident, key, permitted))
-        self.add("client", 0 if room else 3, client=ident, auth=key, permitted=permitted, zero=zero)
+            self.clients.append((ident, key, permitted, lifetime))
+        self.add("client", 0 if room else 3, client=ident, auth=key, permitted=permitted, lifetime=lifetime, zero=zero)
 
     # Calls
 
     def push(self):
         rng = self.rng
         client = self.some_client()
-        permitted = client[2]
+        permitted, lifetime = client[2], client[3] or REFERENCE_LIFETIME
         scope = permitted & rng.getrandbits(32) or permitted
         verifier = self.new_verifier()
         challenge, matches = s256(verifier), True
@@ -200,7 +203,7 @@ class Maker:
         given = set() if permitted else {6}
         given |= {8} if len(self.records) >= self.slots else set()
         if self.call("push", fields, faults, given):
-            self.records.append(Record(1, client, fields["scope"], fields["now"] + REFERENCE_LIFETIME,
+            self.records.append(Record(1, client, fields["scope"], fields["now"] + lifetime,
                                        fields["fresh"], verifier, matches))
 
     def decide(self):
@@ -230,7 +233,7 @@ class Maker:
         waiting = any(r.state == 2 for r in self.records)
         record, given = self.pick({2} if waiting and rng.random() < 0.85 else {3}, 14)
         given |= ({15} if record.state == 3 else set()) | (set() if record.matches else {16})
-        ident, key, _ = record.client
+        ident, key, _, _ = record.client
         fields = dict(now=self.soon(record), client=ident, auth=key, code=record.value, verifier=record.verifier,
                       key=rng.choice([key, rng.randbytes(32)]), fresh=self.new_value())
         used = ZERO if 14 in given else rng.choice([record.value, self.used_value()])
@@ -313,7 +316,7 @@ class Maker:
         return nobody, {unknown}
 
     def some_client(self):
-        stranger = (self.rng.randbytes(16), self.rng.randbytes(32), 5)
+        stranger = (self.rng.randbytes(16), self.rng.randbytes(32), 5, 0)
         return self.rng.choice(self.clients or [stranger])
 
     def soon(self, record=None):

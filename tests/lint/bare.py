@@ -20,7 +20,8 @@ sys.dont_write_bytecode = True
 from sources import ANTT_SKIP, RATTLE_SKIP, TOP, blank, closing, tally, without  # noqa: E402
 
 PLAIN = {
-    599: "lifetime of a reference",
+    90: "lifetime of a reference",
+    599: "the most that a client's record may say",
     60: "lifetime of a code",
     300: "lifetime of a token",
     600: "the profile's limit of a reference",
@@ -44,6 +45,8 @@ TELLS_REDIRECTS = {"forms", "ledger"}
 # What a number is in a crate that knows nothing of ledgers, or in one file.
 OWN = {
     ("octets", 256): "the values of a byte, in which numbers are read and written",
+    ("forms", 90): "0x5A, the letter Z",
+    ("crates/history/specs/Example.antt", 90): "0x5A, a Z in a challenge",
     ("sha256", 64): "the bytes of a block, the words of a schedule, the rounds",
     ("sha256", 128): "0x80, the mark behind a message",
     ("sha256", 256): "the values of a byte",
@@ -51,7 +54,7 @@ OWN = {
     ("texts", 256): "the values of a byte",
     ("crates/ledger/specs/Fields.antt", 128): "where the value ends and the token begins",
     ("crates/ledger/specs/Fields.antt", 256): "where the redirect ends",
-    ("crates/clients/specs/Fields.antt", 64): "where the last twelve bytes end",
+    ("crates/clients/specs/Fields.antt", 64): "where the last ten bytes end",
 }
 # Places that wait for a name, each with the name that there is or should be.
 OPEN = {
@@ -160,7 +163,7 @@ SAMPLES = [
     ("token/src/lib.rt", "fn f(time: u64, v: &[u8]) -> bool {\n    v.len() < 43 || 128 < v.len()\n}", [43, 128]),
     ("resource/src/lib.rt", "fn f(k: usize, t: u64) -> usize { 32 + k * 0x100 + t + 300 }", [256, 300]),
     ("history/specs/Demand3.antt", "young = t < u + 300\nBytes xs = (i : ℕ) → getD xs i 0 < 256\nlong = n < 256", [300, 256]),
-    ("newcomer/specs/Any.antt", "a = 60\nb = 43\nc = 64\nd = 128\ne = 256\nf = 300\ng = 599\nh = 32 + 16", [60, 43, 64, 128, 256, 300, 599]),
+    ("newcomer/specs/Any.antt", "a = 60\nb = 43\nc = 64\nd = 128\ne = 256\nf = 300\ng = 599\nh = 32 + 16\ni = 90", [60, 43, 64, 128, 256, 300, 599, 90]),
     ("ledger/src/a.rt", "impl Code {\n    pub const LIFETIME: u64 = 60;\n    pub fn f() -> u64 { 60 }\n}\nfn g() -> u64 { 9 }", [60, 9]),
     ("ledger/src/b.rt", "impl Token {\n    const LIFETIME: u64 = 300;\n}\nimpl Clock {\n    pub const LIMIT: u64 = 0x100_0000_0000;\n}", []),
     ("ledger/src/c.rt", "fn f(r: &[u8])\n    requires { ⌜ length (now r) ≡ 256 ⌝ }\n{ }", [256]),

@@ -31,7 +31,8 @@ CONSTANTS = [
     ("CHALLENGE_LENGTH", "forms/src/lib.rt", "Challenge::LENGTH"),
     ("VERIFIER_LEAST", "forms/src/lib.rt", "Verifier::LEAST"),
     ("VERIFIER_MOST", "forms/src/lib.rt", "Verifier::MOST"),
-    ("REFERENCE_LIFETIME", "ledger/src/limit.rt", "Reference::LIFETIME"),
+    ("REFERENCE_LIFETIME", "clients/src/lifetime.rt", "Reference::LIFETIME"),
+    ("REFERENCE_MOST", "clients/src/lifetime.rt", "Reference::MOST"),
     ("CODE_LIFETIME", "ledger/src/limit.rt", "Code::LIFETIME"),
     ("TOKEN_LIFETIME", "ledger/src/limit.rt", "Token::LIFETIME"),
     ("TIME_LIMIT", "ledger/src/limit.rt", "Clock::LIMIT"),
@@ -196,6 +197,7 @@ SPOILS = [
     (HEADER, "    uint8_t number;\n    size_t length;\n", "    uint8_t number;\n    uint8_t length;\n"),
     (HEADER, "#define PERDIGOLH_TEXT_MOST 304", "#define PERDIGOLH_TEXT_MOST 303"),
     (HEADER, "#define PERDIGOLH_CODE_LIFETIME 60", "#define PERDIGOLH_CODE_LIFETIME 61"),
+    (HEADER, "#define PERDIGOLH_REFERENCE_LIFETIME 90", "#define PERDIGOLH_REFERENCE_LIFETIME 599"),
     (HEADER, "PERDIGOLH_YES 1", "PERDIGOLH_YES 2"),
     (HEADER, "PERDIGOLH_NO 0", "PERDIGOLH_NO 1"),
     (HEADER, "#define PERDIGOLH_NO 0\n", ""),
@@ -206,6 +208,7 @@ SPOILS = [
     (RAW, "pub fn perdigolh_introspect(\n        ledger: *const u8", "pub fn perdigolh_introspect(\n        ledger: *mut u8"),
     (LIBRARY, "TOKEN_LIFETIME: u64 = 300", "TOKEN_LIFETIME: u64 = 301"),
     (LIBRARY, "TEXT_MOST: usize = 304", "TEXT_MOST: usize = 340"),
+    (LIBRARY, "REFERENCE_MOST: u64 = 599", "REFERENCE_MOST: u64 = 600"),
 ]
 
 

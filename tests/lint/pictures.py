@@ -18,7 +18,8 @@ FOLDER = "docs/pictures"
 PICTURES = re.findall(r'"(\w+)"', re.search(r"^PICTURES = (.*)$", (TOP / "tools/pictures/draw").read_text(encoding="utf8"), re.M).group(1))
 # a source, what is changed in it, and the pictures that tell
 CHANGES = [
-    ("crates/ledger/specs/Limits.antt", "referenceLifetime = 599", "referenceLifetime = 598", ["steps", "states"]),
+    ("crates/clients/specs/Limits.antt", "referenceLifetime = 90", "referenceLifetime = 91", ["steps", "states"]),
+    ("crates/clients/specs/Limits.antt", "lifetimeMost = 599", "lifetimeMost = 598", ["steps", "states"]),
     ("crates/ledger/specs/Limits.antt", "tokenLifetime = 300", "tokenLifetime = 301", ["steps", "states"]),
     ("crates/ledger/specs/Limits.antt", "recordsMost = 200", "recordsMost = 100", ["bytes"]),
     ("crates/ledger/specs/Fields.antt", "holderSpan = span 24 32", "holderSpan = span 24 30", ["bytes"]),

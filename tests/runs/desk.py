@@ -97,7 +97,7 @@ def at_the_desk(program):
     yield "by its number, on standard error", re.findall(r"^desk: line (\d+): ", wrong.stderr.decode(), re.M) == ["2", "4"]
     drawn, status = said(DESK, program, given="\n".join([*calls[:2], re.sub(r"now=\S+ ", "", calls[2]).replace("fresh=0x11*32", "fresh=random")]))
     found = re.fullmatch(r"0: done; grant 1; holder 0; scope 4; expiry (\d+); fresh ([0-9a-f]{64})", drawn[-1])
-    yield "the clock and a fresh value of its own", status == 0 and found and abs(int(found[1]) - 599 - time.time()) < 60
+    yield "the clock and a fresh value of its own", status == 0 and found and abs(int(found[1]) - 90 - time.time()) < 60
     for other, why in ((f"{sys.executable} -c pass", "no answer at all"), ("yes zz", "no answer's words"), ("yes 00000000000000", "another call's answer"), ("sh -c 'read line; printf 00'", "a line cut off"), ("/no/such/program", "no program")):
         told = run(DESK, other, given=calls[0] + "\n")
         yield f"a program that fails: {why}", told.returncode == 1 and told.stdout == b"" and told.stderr.startswith(b"desk: ")

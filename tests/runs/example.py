@@ -13,8 +13,8 @@ from pathlib import Path
 TOP = Path(__file__).resolve().parent.parent.parent
 PAGE, ARCHIVE = TOP / "docs/FRONT.md", TOP / "target/staticlib/libfront.a"
 RECORDS = 8
-# document 01: push 599 seconds, done is 0, the second use of a code is 15
-GRANT = """push: 0, grant {}, for 599 seconds under urn:ietf:params:oauth:request_uri:..
+# document 02, Q-2: push 90 seconds where the record says 0; document 01: done is 0, the second use of a code is 15
+GRANT = """push: 0, grant {}, for 90 seconds under urn:ietf:params:oauth:request_uri:..
 pending: 0, grant {}, scope 4, for https://buyer.example/back
 decide: 0, holder 7, back to https://buyer.example/back
 token: 0, scope 4

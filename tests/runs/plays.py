@@ -1,5 +1,5 @@
 #!/usr/bin/env python3
-"""The lines that crates/plays must write for its script, a call a line, from document 01.
+"""The lines that crates/plays must write for its script, a call a line, from documents 01 and 02.
 
   tests/runs/plays.py print   the expected lines
   tests/runs/plays.py check   compare crates/plays/stdout with them, and see that the script plays these calls and every number of each call's list
@@ -104,7 +104,7 @@ def pushing():
     started("start-800", 0)                    # zeros and next number 1
     refused("push-2-limit", 2)                 # now is 2^40
     refused("push-3-empty", 3)                 # a table of no clients
-    refused("push-3-unsound", 3)               # a third client, whose last byte is not zero
+    refused("push-3-600", 3)                   # a fifth client, whose record says 600: 3 for everybody
     refused("push-4-id", 4)                    # no such client id
     refused("push-4-key", 4)                   # its authentication key differs: this is another client's
     refused("push-6-zero", 6)                  # P7: scope 0
@@ -119,7 +119,7 @@ def pushing():
     refused("push-5-44", 5)                    # and of 44
     refused("push-5-letter", 5)                # a challenge with +
     ledger(1000, 2)
-    granted("push-0", 0, 1, 0, 4, 1599)        # P7, P10: grant 1, no holder yet, expiry 1000 + 599
+    granted("push-0", 0, 1, 0, 4, 1599)        # P7, P10: grant 1, no holder yet, expiry 1000 + 599, as its client's record says
     refused("push-2-back", 2)                  # now 999 is below the clock
     refused("push-7-taken", 7)                 # fresh equals the reference; the clock stays
     ledger(1000, 3)
@@ -158,6 +158,7 @@ def redeeming():
     refused("token-2-back", 2)            # now 1010 is below the clock, 1011
     refused("token-2-limit", 2)
     refused("token-3", 3)                 # a table of no clients
+    refused("token-3-600", 3)             # a fifth client, whose record says 600
     refused("token-4-id", 4)
     refused("token-4-key", 4)
     refused("token-14-unknown", 14)       # no record with this code
@@ -254,7 +255,34 @@ def edges():
     swept("sweep-0-edge", 0, 0, 0, 1)                     # expired at 1957
 
 
-for play in (starts, unsound, pushing, deciding, redeeming, reading, sweeping, numbers, edges):
+def lifetimes():
+    ledger(0, 1)
+    started("start-lifetimes", 0)
+    ledger(1000, 2)
+    granted("push-0-says-0", 0, 1, 0, 7, 1090)               # 0 means 90
+    ledger(1000, 3)
+    granted("push-0-says-1", 0, 2, 0, 7, 1001)
+    refused("decide-11-says-1", 11)                          # one second after the push
+    decided("decide-0-says-1", 0, 2, 7, 7, 1060, 9, REDIRECT)  # in the same second
+    refused("decide-11-says-0", 11)                          # 90 seconds after the push
+    ledger(1089, 3)
+    decided("decide-0-says-0", 0, 1, 7, 7, 1149, 9, REDIRECT)  # 89 seconds after it
+    ledger(1149, 3)
+    swept("sweep-0-lifetimes", 0, 0, 2, 0)                   # both codes are expired
+    ledger(1149, 4)
+    granted("push-0-says-1-again", 0, 3, 0, 7, 1150)
+    ledger(1149, 5)
+    granted("push-0-says-0-again", 0, 4, 0, 7, 1239)
+    swept("sweep-0-says-1-before")
+    ledger(1150, 5)
+    swept("sweep-0-says-1", 0, 1, 0, 0)
+    ledger(1238, 5)
+    swept("sweep-0-says-0-before")
+    ledger(1239, 5)
+    swept("sweep-0-says-0", 0, 1, 0, 0)
+
+
+for play in (starts, unsound, pushing, deciding, redeeming, reading, sweeping, numbers, edges, lifetimes):
     play()
 
 

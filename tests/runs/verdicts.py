@@ -88,7 +88,8 @@ TABLE = {
     "table id": lambda t: all(any(c[0:16]) for c in clients_of(t)),                # no id
     "table key": lambda t: all(any(c[16:48]) for c in clients_of(t)),              # or key all zeros
     "table ids": lambda t: len({c[0:16] for c in clients_of(t)}) == len(clients_of(t)),  # ids distinct
-    "table zero": lambda t: not any(any(c[52:64]) for c in clients_of(t)),         # last twelve bytes zero
+    "table lifetime": lambda t: all(int.from_bytes(c[52:54], "big") <= 599 for c in clients_of(t)),  # document 02, Q-2: 3 also when the field is above 599
+    "table zero": lambda t: not any(any(c[54:64]) for c in clients_of(t)),         # last twelve bytes zero, but for those two
 }
 
 # ---- What is spoiled.
@@ -237,7 +238,15 @@ TABLE_CASES = [
     ("table-key-zeros", table((16, bytes(32))), "table key"),
     ("table-ids-twice", table((64, b"\xa1" * 16)), "table ids"),
     ("table-ids-but-last-byte", table((64, b"\xa1" * 15)), None),
-    ("table-byte-52", table((52, b"\1")), "table zero"),
+    ("table-lifetime-1", table((52, b"\0\1")), None),
+    ("table-lifetime-256", table((52, b"\1\0")), None),
+    ("table-lifetime-599", table((52, b"\2\x57")), None),
+    ("table-lifetime-599-second", table((116, b"\2\x57")), None),
+    ("table-lifetime-600", table((52, b"\2\x58")), "table lifetime"),
+    ("table-lifetime-600-second", table((116, b"\2\x58")), "table lifetime"),
+    ("table-lifetime-turned", table((52, b"\x57\2")), "table lifetime"),
+    ("table-lifetime-most", table((116, b"\xff\xff")), "table lifetime"),
+    ("table-byte-54", table((54, b"\1")), "table zero"),
     ("table-byte-63", table((63, b"\1")), "table zero"),
     ("table-byte-127", table((127, b"\1")), "table zero"),
     ("table-permitted-0", table((48, bytes(4))), None),  # permitted scope may be 0

@@ -20,7 +20,8 @@ def found(pattern, text, what):
 
 def limit(name):
     """A lifetime or limit, by its definition."""
-    return int(found(rf"^{name} = (\d+)$", text_of("crates/ledger/specs/Limits.antt"), name).group(1))
+    both = "\n".join(text_of(f"crates/{crate}/specs/Limits.antt") for crate in ("ledger", "clients"))
+    return int(found(rf"^{name} = (\d+)$", both, name).group(1))
 
 
 def states():

@@ -35,7 +35,7 @@ def draw():
         sheet.words(middle(place), TOP + 32, f"{number}  {name.lower()}", 16, bold=True, anchor="middle")
         sheet.lines(middle(place), TOP + 54, wrapped(inside[name], 11, WIDE - 12), 11, anchor="middle", fill=SOFT)
     written = {call: "writes " + ", ".join(NAMED.get(name, name) for name in fields) for call, fields in writes().items()}
-    ways = [("push", ["the first free record", f"expiry = now + {limit('referenceLifetime')}", written["push"]]),
+    ways = [("push", ["the first free record", f"expiry = now + {limit('referenceLifetime')}, or what the client's record says, {limit('lifetimeMost')} at most", written["push"]]),
             ("decide", ["yes, of this reference and client id", f"expiry = now + {limit('codeLifetime')}", written["decide"]]),
             ("token", ["this code, client id and secret", f"expiry = now + {limit('tokenLifetime')}", written["token"]])]
     for place, (call, lines) in enumerate(ways):

@@ -10,10 +10,10 @@ HEAD, BAND = 118, 204
 
 def bands():
     """Each step: its name; its arrows as lane, lane, words; what program and desk hold afterwards."""
-    reference, code, token = limit("referenceLifetime"), limit("codeLifetime"), limit("tokenLifetime")
+    reference, most, code, token = limit("referenceLifetime"), limit("lifetimeMost"), limit("codeLifetime"), limit("tokenLifetime")
     yield ("1  push", [(0, 1, "request, hash of the secret"), (1, 3, "push: client id, key it has verified, scope, challenge, redirect, fresh value"),
                        (3, 1, "done; the fresh value is the reference"), (1, 0, "reference")],
-           "secret, reference", f"state 1: client, scope, challenge, reference; expires at now + {reference}")
+           "secret, reference", f"state 1: client, scope, challenge, reference; expires at now + {reference}, or what its client's record says, {most} at most")
     yield ("2  decide", [(0, 2, "reference, by her browser"), (2, 1, "logs in, sees the request (pending), allows it"),
                          (1, 3, "decide: reference, client id, yes, her number, fresh value"),
                          (3, 1, "done, and the redirect; the fresh value is the code"), (1, 0, "code, by her browser")],

@@ -90,7 +90,7 @@ fn measure<E: Engine + Send + Sync>(
 
 /// How many calls were made.
 fn grant<E: Engine>(at: &Keeper<E>) -> u64 {
-    let table = client_record(BUYER, KEY, 5);
+    let table = client_record(BUYER, KEY, 5, 0);
     let push = keeper::Push {
         client: BUYER,
         key: KEY,

@@ -40,7 +40,7 @@ fn main() -> Result<(), Box<dyn Error>> {
             .start(LEDGER_MOST, Options { journal: true, memo: true })?;
     }
     let clients: Vec<ClientId> = (1..=12).map(|number| ClientId([number; 16])).collect();
-    let table: Vec<u8> = clients.iter().flat_map(|&client| client_record(client, KEY, 5)).collect();
+    let table: Vec<u8> = clients.iter().flat_map(|&client| client_record(client, KEY, 5, 0)).collect();
     let redirect = b"https://buyer.example/back";
     for client in clients {
         let ledger = ledger_of(client);

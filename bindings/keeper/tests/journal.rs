@@ -70,7 +70,7 @@ fn what_no_frame_can_say_has_a_form_of_its_own() {
     let late = perdigolh_keeper::Redeem { verifier: &long, ..redeem(Code([1; 32])) };
     assert_eq!(keeper.call(|ledger| ledger.token(&table(), &late)).unwrap().unwrap_err(), Refusal::IllFormed);
     // a table that grows, one that shrinks, one of no right length, none
-    let more = [table(), client_record(ClientId([0xb1; 16]), KEY, 1).to_vec()].concat();
+    let more = [table(), client_record(ClientId([0xb1; 16]), KEY, 1, 0).to_vec()].concat();
     for other in [&more[..], &table(), &more[..100], &[]] {
         let _ = keeper.call(|ledger| ledger.push(other, &PUSH)).unwrap();
     }

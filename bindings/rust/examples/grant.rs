@@ -10,7 +10,7 @@ fn main() -> Result<(), Refusal> {
     // The front's part: a registered program, and the keys that it has verified. Its random source would give the fresh values.
     let (buyer, key, manager) = (ClientId([0xa1; 16]), Key([0xa2; 32]), 7);
     let presented = Key([0xee; 32]);
-    let table = client_record(buyer, key, 0b101);
+    let table = client_record(buyer, key, 0b101, 0);
 
     let mut bytes = vec![0; ledger_bytes(2)];
     let mut ledger = Ledger::start(&mut bytes)?;

@@ -66,8 +66,9 @@ pub const VERIFIER_LEAST: usize = 43;
 pub const VERIFIER_MOST: usize = 128;
 /// Time, in whole seconds, stays below this.
 pub const TIME_LIMIT: u64 = 1099511627776;
-/// Seconds that a reference, a code and a token live.
-pub const REFERENCE_LIFETIME: u64 = 599;
+/// Seconds that a reference lives where the client's record says 0, and the most that it may say; that a code and a token live.
+pub const REFERENCE_LIFETIME: u64 = 90;
+pub const REFERENCE_MOST: u64 = 599;
 pub const CODE_LIFETIME: u64 = 60;
 pub const TOKEN_LIFETIME: u64 = 300;
 
@@ -84,13 +85,15 @@ pub const fn table_bytes(clients: usize) -> usize {
     clients * CLIENT_SIZE
 }
 
-/// A client's record in the table: id, thumbprint of the authentication key, permitted scope bits, twelve zeros. A table is 1 to 64
-/// of them, one behind the other; it answers 3 where an id or a key is all zeros or two ids are alike.
-pub fn client_record(id: ClientId, key: Key, permitted: u32) -> [u8; CLIENT_SIZE] {
+/// A client's record in the table: id, thumbprint of the authentication key, permitted scope bits, the seconds that its references
+/// live (0 means [`REFERENCE_LIFETIME`]), ten zeros. A table is 1 to 64 of them, one behind the other; it answers 3 where an id or a
+/// key is all zeros, two ids are alike, or a lifetime is above [`REFERENCE_MOST`].
+pub fn client_record(id: ClientId, key: Key, permitted: u32, lifetime: u16) -> [u8; CLIENT_SIZE] {
     let mut record = [0; CLIENT_SIZE];
     record[..16].copy_from_slice(&id.0);
     record[16..48].copy_from_slice(&key.0);
     record[48..52].copy_from_slice(&permitted.to_be_bytes());
+    record[52..54].copy_from_slice(&lifetime.to_be_bytes());
     record
 }
 

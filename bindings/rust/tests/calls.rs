@@ -41,8 +41,8 @@ impl World {
     fn at(far: Far) -> World {
         let mut bytes = vec![0xff; ledger_bytes(2)];
         Ledger::start(&mut bytes).unwrap();
-        let mut table = client_record(BUYER, KEY, 5).to_vec();
-        table.extend(client_record(OTHER, KEY, 5));
+        let mut table = client_record(BUYER, KEY, 5, 599).to_vec();
+        table.extend(client_record(OTHER, KEY, 5, 0));
         let mut world = World { bytes, table, output: vec![0xcc; OUTPUT_LEAST + 6] };
         if far >= Far::Pushed {
             world.push(1000, PUSH).unwrap();
@@ -186,6 +186,21 @@ fn push_is_refused_in_order() {
     assert_eq!(world.push(5, PUSH), Err(TableUnsound));
     world.bytes[16] = 1;
     assert_eq!(world.push(1 << 40, PUSH), Err(LedgerUnsound));
+}
+
+#[test]
+fn a_reference_lives_as_its_clients_record_says() {
+    let table = |said| [client_record(OTHER, KEY, 5, 599), client_record(BUYER, KEY, 5, said)].concat();
+    for (said, seconds) in [(0, REFERENCE_LIFETIME), (1, 1), (256, 256), (599, REFERENCE_MOST)] {
+        for (time, result) in [(999 + seconds, Ok(1)), (1000 + seconds, Err(Refusal::RecordExpired))] {
+            let mut world = World { table: table(said), ..World::at(Far::Started) };
+            assert_eq!(world.push(1000, PUSH).unwrap().expiry, 1000 + seconds);
+            assert_eq!(world.decide(time, YES).map(|decided| decided.answer.grant), result);
+        }
+    }
+    let mut world = World { table: table(600), ..World::at(Far::Consented) };
+    assert_eq!(world.push(1000, PUSH), Err(Refusal::TableUnsound));
+    assert_eq!(world.token(1000, REDEEM), Err(Refusal::TableUnsound));
 }
 
 #[test]

@@ -12,7 +12,7 @@ use Rattle.octets.proofs.Tests.{both, false-of}
 use Rattle.octets.proofs.Parts.{zeros-eq}
 use Rattle.octets.proofs.Numbers.{Octets}
 use Rattle.forms.specs.Forms.{redirectFormed, challengeFormed}
-use Rattle.ledger.specs.Limits.{referenceLifetime, codeLifetime, tokenLifetime, lastNumber}
+use Rattle.ledger.specs.Limits.{codeLifetime, tokenLifetime, lastNumber}
 use Rattle.ledger.specs.Fields.{nextNumber, rec, records}
 use Rattle.ledger.specs.Sound.{sized, sound}
 use Rattle.ledger.specs.Checks.{isFree, isReference, isCode, taken}
@@ -29,7 +29,7 @@ use Rattle.clients.proofs.Laws.{of-sound as of-table}
 use Rattle.desk.specs.Answers.{done, numberOf}
 use Rattle.desk.specs.Requests.{PushRequest, DecideRequest, TokenRequest, ResourceRequest}
 use Rattle.desk.specs.Outcome.{Outcome, left}
-use Rattle.desk.specs.Push.{pushRecord, pushAt, push}
+use Rattle.desk.specs.Push.{lifetime, pushRecord, pushAt, push}
 use Rattle.desk.specs.Decide.{referencePlace, consentRecord, consentAt, declineAt, decideAt, decide}
 use Rattle.desk.specs.Token.{codePlace, tokenRecord, tokenAt, token}
 use Rattle.desk.specs.Resource.{resource}
@@ -44,6 +44,7 @@ use Rattle.desk.proofs.Turns.{number-refused}
 use Rattle.call_laws.proofs.Rows.{push-cases, decide-cases, token-cases, resource-cases, sweep-cases}
 use Rattle.call_laws.proofs.Facts.{push-facts, DecideFacts, decide-facts, token-facts, resource-facts, sweep-facts}
 use Rattle.call_laws.proofs.Alone.{either-way}
+use Rattle.call_laws.proofs.Profile.{lives-under}
 use Rattle.call_laws.proofs.Readings.{known-is, scope-says, code-waits}
 
 -- ---- what the types of a request say: fixed arrays have their lengths, numbers their widths, and bytes are below 256
@@ -84,10 +85,11 @@ module _ (l : List ℕ) (t : ℕ) (table : List ℕ) (p : PushRequest) where
       let a = first-in isFree l (f .room) in
       let k = place isFree (records l) in
       let h = timely-lt l t (f .in-time) in
+      let n = lives-under l t table p f in
       let least = of-sound l s .least in
       let (w, x) = both (redirectFormed (p .redirect)) (challengeFormed (p .challenge)) (f .formed) in
       sound-clock t _
-      (sound-pushed l k (p .scope) (t + referenceLifetime) (p .client) (p .challenge) (p .fresh) (p .redirect) s (a .inside) (free-says (rec l k) .0 (a .passes))
+      (sound-pushed l k (p .scope) (t + lifetime table p) (p .client) (p .challenge) (p .fresh) (p .redirect) s (a .inside) (free-says (rec l k) .0 (a .passes))
       (next-left l o (omega arith) (eqb-false (nextNumber l) lastNumber (f .numbers-left))) (scope-says (p .scope) _ .0 (f .fits) .nonzero) (y .scope-fits) (y .client-long)
       (known-set table (p .client) (p .key) (f .table-sound) (f .known) (y .client-long)) x w (y .fresh-long) (f .new) (omega arith))
       h)
@@ -103,7 +105,7 @@ module _ (l : List ℕ) (t : ℕ) (table : List ℕ) (p : PushRequest) where
       octets-clock t _
       (octets-next (nextNumber l + 1) _
       (octets-with l k (pushRecord l t table p (rec l k)) o
-      (octets-pushed (p .scope) (nextNumber l) (t + referenceLifetime) (p .client) (p .challenge) (p .fresh) (p .redirect) (rec l k) (y .client-bytes)
+      (octets-pushed (p .scope) (nextNumber l) (t + lifetime table p) (p .client) (p .challenge) (p .fresh) (p .redirect) (rec l k) (y .client-bytes)
       (octets-challenge (p .challenge) x) (y .fresh-bytes) (octets-redirect (p .redirect) w) (octets-rec l k o)))))
 
 -- ---- decide

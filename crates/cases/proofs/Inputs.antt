@@ -1,7 +1,7 @@
 -- The inputs that the cases are met with: those of history's example, with another scope, text, redirect, fresh value or verifier.
 use Prim.Native.Nat.{ℕ}
 use mathlib.Core.Bool.{true}
-use mathlib.Core.List.{List, [], _∷_}
+use mathlib.Core.List.{List, [], _∷_, _++_}
 use lib.ListN.{replicate}
 use Rattle.desk.specs.Requests.{PushRequest, DecideRequest, TokenRequest}
 use Rattle.history.specs.Example.{program, programKey}
@@ -21,6 +21,10 @@ text129 =
     0x77 ∷ 0x53 ∷ 0x79 ∷ 0x77 ∷ 0x4A ∷ 0x4B ∷ 0x4C ∷ 0x6C ∷ 0x56 ∷ 0x52 ∷ 0x7A ∷ 0x4B ∷ 0x44 ∷ 0x67 ∷ 0x6A ∷ 0x38 ∷
     0x36 ∷ 0x50 ∷ 0x48 ∷ 0x46 ∷ 0x34 ∷ 0x78 ∷ 0x52 ∷ 0x56 ∷ 0x58 ∷ 0x4D ∷ 0x50 ∷ 0x2D ∷ 0x39 ∷ 0x6A ∷ 0x4B ∷ 0x65 ∷
     0x36 ∷ 0x5A ∷ 0x53 ∷ 0x6A ∷ 0x32 ∷ 0x33 ∷ 0x55 ∷ 0x68 ∷ 0x5A ∷ 0x71 ∷ 0x34 ∷ []
+
+-- the table of that example for a harbour kiosk: its record says 599
+abbrev pub kiosk : List ℕ
+kiosk = program ++ (programKey ++ (0 ∷ 0 ∷ 0 ∷ 5 ∷ 0x02 ∷ 0x57 ∷ replicate 10 0))
 
 -- the requests of a grant: bits asked, challenge and redirect; fresh value of the consent; verifier
 abbrev pub asking : ℕ → List ℕ → List ℕ → PushRequest

@@ -7,7 +7,7 @@ use mathlib.Core.List.{List}
 use lib.Dec.{lit≤}
 use lib.ListN.{length, replicate}
 use Rattle.octets.specs.Plain.{Bytes}
-use Rattle.octets.specs.Lists.{tabulate}
+use Rattle.octets.specs.Lists.{every, tabulate}
 use Rattle.octets.specs.Numbers.{numFrom, num, digits}
 use Rattle.octets.specs.Parts.{laid, put, blank, zeros, same}
 use Rattle.forms.specs.Forms.{visible, urlSafe, unreserved, redirectFormed, challengeFormed, verifierFormed}
@@ -20,9 +20,10 @@ use Rattle.sha256.specs.Schedule.{next, words, schedule}
 use Rattle.sha256.specs.Word.{Σ0, Σ1, σ0, σ1}
 use Rattle.texts.specs.Base64url.{letter, characters, base64url}
 use Rattle.s256.specs.Rule.{matches}
-use Rattle.clients.specs.Fields.{permitted, client, entries}
+use Rattle.clients.specs.Fields.{permitted, lifetimeSaid, client, entries}
+use Rattle.clients.specs.Lifetime.{lifetimeOf}
 use Rattle.clients.specs.Known.{hasId, hasKey, placeOf, isKnown}
-use Rattle.clients.specs.Sound.{lengthRight, idGiven, idsGiven, keyGiven, keysGiven, sameId, idsDistinct, restZero, restsZero, sound as tableSound}
+use Rattle.clients.specs.Sound.{lengthRight, idGiven, idsGiven, keyGiven, keysGiven, sameId, idsDistinct, lifetimeFits, lifetimesFit, restZero, restsZero, sound as tableSound}
 use Rattle.ledger.specs.Checks.{untimely, taken, isFree, isWith, isReference, isCode, isToken}
 use Rattle.ledger.specs.Fields.{rec, slots, records, stated}
 use Rattle.ledger.specs.Sound.{sized, numbersSound, bytesSound, usedSound, noToken, someToken, recordSound, sameGrant, holds, meets, ownApart, headSound, sound}
@@ -43,8 +44,8 @@ use Rattle.cases.specs.Cases.{Input, InOrder, DecideAfter, TokenAfter, R
 use Rattle.cases.specs.Table.{shortest, tooShort, notSecure, rows, Row, Met, Each}
 use Rattle.cases.proofs.Holding.{_and_}
 use Rattle.history.specs.Example.{room, table, secret, text43, reads}
-use Rattle.history.proofs.Example.{typed-push, typed-decide, typed-token}
-use Rattle.cases.proofs.Inputs.{text42, text129, asking, allowing, code, redeeming}
+use Rattle.history.proofs.Example.{isByte, bytes-of, typed-push, typed-decide, typed-token}
+use Rattle.cases.proofs.Inputs.{text42, text129, kiosk, asking, allowing, code, redeeming}
 use Rattle.ledger_laws.proofs.Ranges.{octets-started}
 
 -- ---- the ledgers of a grant on one record: a push, a consent of it and a token of that
@@ -64,28 +65,45 @@ bytes-started : Bytes (started 1)
 unfolding emptyLedger
 bytes-started = octets-started 288
 
-abbrev pushing : Call
-pushing = push 1000 table (asking 4 text43 shortest)
+-- a push at 1,000 with this table, and decide of it
+module _ (said : ℕ) (clients : List ℕ) where
+  abbrev pushing : Call
+  pushing = push 1000 clients (asking 4 text43 shortest)
 
-decide-met : (t : ℕ) → numberIn (step (started 1) pushing .answer) ≡ done
-    → elseInOrder RecordExpired (checksOf (pushedAt 1000 text43) (decide t (allowing code) room)) ≡ true
-    → DecideAfter 1000 t (pushedAt 1000 text43) (decide t (allowing code) room)
-decide-met t a e =
-    record {
-      before = started 1;
-      table = table;
-      asked = asking 4 text43 shortest;
-      bytes = bytes-started;
-      typed = typed-push 1000 (lit≤ tt);
-      accepted = a;
-      leaves = refl;
-      request = allowing code;
-      output = room;
-      is = refl;
-      same-reference = refl;
-      same-client = refl;
-      in-order = e;
-    }
+  abbrev askedOf : List ℕ
+  askedOf = step (started 1) pushing .after
+
+  decide-met : (t : ℕ) → every isByte clients ≡ true → lifetimeSaid (clientRecord clients (asking 4 text43 shortest)) ≡ said
+      → numberIn (step (started 1) pushing .answer) ≡ done
+      → elseInOrder RecordExpired (checksOf askedOf (decide t (allowing code) room)) ≡ true
+      → DecideAfter said 1000 t askedOf (decide t (allowing code) room)
+  decide-met t bytes says a e =
+      let y = typed-push 1000 (lit≤ tt) in
+      record {
+        before = started 1;
+        table = clients;
+        asked = asking 4 text43 shortest;
+        lifetime-is = says;
+        bytes = bytes-started;
+        typed = record {
+          now = y .now;
+          clients = bytes-of clients bytes;
+          client = y .client;
+          key = y .key;
+          scope = y .scope;
+          challenge = y .challenge;
+          redirect = y .redirect;
+          fresh = y .fresh;
+        };
+        accepted = a;
+        leaves = refl;
+        request = allowing code;
+        output = room;
+        is = refl;
+        same-reference = refl;
+        same-client = refl;
+        in-order = e;
+      }
 
 token-met : (t : ℕ) → numberIn (step (pushedAt 990 text43) (decide 1000 (allowing code) room) .answer) ≡ done
     → elseInOrder RecordExpired (checksOf (consentedAt 1000 text43) (token t table (redeeming (secret 43)))) ≡ true
@@ -188,7 +206,7 @@ abbrev met : {r : Row} (x : Input (r .varied)) → InOrder (r .varied) x → Met
 met x o = record { input = x; in-order = o }
 
 pub every-row-is-met : Each Met rows
-unfolding tabulate numFrom num digits laid put blank zeros same visible urlSafe unreserved redirectFormed challengeFormed verifierFormed redirectPrefix client entries hasId hasKey placeOf isKnown lengthRight idGiven idsGiven keyGiven keysGiven sameId idsDistinct restZero restsZero tableSound untimely taken isFree isWith isReference isCode isToken rec slots records sized stated numbersSound bytesSound usedSound noToken someToken recordSound sameGrant holds meets ownApart headSound sound pushed consented redeemed free first scopeFits emptyLedger pushChecks pushRecord pushAt doPush decideChecks consentRecord consentAt declineAt decideAt doDecide tokenChecks tokenRecord tokenAt doToken resourceChecks look doResource step elseInOrder K added compress hashValue joined sha256 pad blocks T1 round rounds next words schedule Σ0 Σ1 σ0 σ1 letter characters base64url matches
+unfolding tabulate numFrom num digits laid put blank zeros same visible urlSafe unreserved redirectFormed challengeFormed verifierFormed redirectPrefix client entries hasId hasKey placeOf isKnown lifetimeOf lengthRight idGiven idsGiven keyGiven keysGiven sameId idsDistinct lifetimeFits lifetimesFit restZero restsZero tableSound untimely taken isFree isWith isReference isCode isToken rec slots records sized stated numbersSound bytesSound usedSound noToken someToken recordSound sameGrant holds meets ownApart headSound sound pushed consented redeemed free first scopeFits emptyLedger pushChecks pushRecord pushAt doPush decideChecks consentRecord consentAt declineAt decideAt doDecide tokenChecks tokenRecord tokenAt doToken resourceChecks look doResource step elseInOrder K added compress hashValue joined sha256 pad blocks T1 round rounds next words schedule Σ0 Σ1 σ0 σ1 letter characters base64url matches
 every-row-is-met =
     met (replicate 288 7) refl
     and met (replicate 288 7) refl
@@ -196,8 +214,10 @@ every-row-is-met =
     and met (replicate 287 7) refl
     and met (blank 51232) (length-blank 51232)
     and met (blank 51488) (length-blank 51488)
-    and met (pushedAt 1000 text43, decide 1598 (allowing code) room) (decide-met 1598 refl refl)
-    and met (pushedAt 1000 text43, decide 1599 (allowing code) room) (decide-met 1599 refl refl)
+    and met (askedOf 599 kiosk, decide 1598 (allowing code) room) (decide-met 599 kiosk 1598 refl refl refl refl)
+    and met (askedOf 599 kiosk, decide 1599 (allowing code) room) (decide-met 599 kiosk 1599 refl refl refl refl)
+    and met (askedOf 0 table, decide 1089 (allowing code) room) (decide-met 0 table 1089 refl refl refl refl)
+    and met (askedOf 0 table, decide 1090 (allowing code) room) (decide-met 0 table 1090 refl refl refl refl)
     and met (consentedAt 1000 text43, token 1059 table (redeeming (secret 43))) (token-met 1059 refl refl)
     and met (consentedAt 1000 text43, token 1060 table (redeeming (secret 43))) (token-met 1060 refl refl)
     and met (redeemedAt 1059, resource 1358 reads) (resource-met 1358 refl refl)

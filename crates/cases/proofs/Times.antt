@@ -2,14 +2,14 @@
 use Prim.Native.Nat.{ℕ, _+_, _<_}
 use mathlib.Core.Path.{_≡_, refl, ap, _∙_}
 use mathlib.Core.Logic.{inl}
-use mathlib.Core.Bool.{Bool, true}
+use mathlib.Core.Bool.{Bool, true, cond}
 use mathlib.Core.List.{List}
-use lib.Dec.{leb}
+use lib.Dec.{eqb, leb}
 use lib.ListN.{length}
 use borrow.Author.Tests.{not-false}
 use Rattle.octets.specs.Lists.{place}
 use Rattle.octets.proofs.Numbers.{Octets}
-use Rattle.ledger.specs.Limits.{referenceLifetime, codeLifetime, tokenLifetime}
+use Rattle.ledger.specs.Limits.{codeLifetime, tokenLifetime}
 use Rattle.ledger.specs.Fields.{records, rec, slots, nextNumber, expiry, withRecord, withNext, withClock}
 use Rattle.ledger.specs.Sound.{sound}
 use Rattle.ledger.specs.Checks.{isFree, isReference, isCode, isToken, expired}
@@ -17,12 +17,15 @@ use Rattle.ledger.proofs.Records.{slots-with, rec-same}
 use Rattle.ledger_laws.proofs.Slots.{slotOf}
 use Rattle.ledger_laws.proofs.Heads.{slots-clock, rec-clock, slots-next, rec-next}
 use Rattle.ledger_laws.proofs.Searches.{First, reference-first, code-first, token-first, reference-says, code-says, token-says}
+use Rattle.clients.specs.Fields.{lifetimeSaid}
+use Rattle.clients.specs.Lifetime.{lifetimeOf}
+use Rattle.clients.specs.Limits.{referenceLifetime}
 use Rattle.desk.specs.Answers.{done}
 use Rattle.desk.specs.Requests.{PushRequest, DecideRequest, TokenRequest}
 use Rattle.desk.specs.Outcome.{Outcome}
 use Rattle.desk.specs.declared.answer.Answer.{Answer}
 use Rattle.desk.specs.declared.answer.Decided.{Decided}
-use Rattle.desk.specs.Push.{pushRecord, pushAt}
+use Rattle.desk.specs.Push.{lifetime, pushRecord, pushAt}
 use Rattle.desk.specs.Decide.{referencePlace, consentRecord, consentAt, decideChecks}
 use Rattle.desk.specs.Token.{codePlace, tokenRecord, tokenAt, tokenChecks}
 use Rattle.desk.specs.Resource.{resourceChecks}
@@ -72,17 +75,17 @@ module _ (l : List ℕ) (t : ℕ) (k : ℕ) (r : List ℕ) (q : List ℕ → Boo
 
 module _ (l : List ℕ) (t : ℕ) (table : List ℕ) (p : PushRequest) (o : Octets l) (y : TypedPush t table p) where
   push-stands : numberIn (step l (push t table p) .answer) ≡ done
-      → Stands (isReference (p .fresh) (p .client)) (t + referenceLifetime) (step l (push t table p) .after)
+      → Stands (isReference (p .fresh) (p .client)) (t + lifetime table p) (step l (push t table p) .after)
   unfolding step pushAt slotOf
   push-stands =
-      push-cases l t table p (λ (o : Outcome Answer). o .answer .number ≡ done → Stands (isReference (p .fresh) (p .client)) (t + referenceLifetime) (o .ledger))
+      push-cases l t table p (λ (o : Outcome Answer). o .answer .number ≡ done → Stands (isReference (p .fresh) (p .client)) (t + lifetime table p) (o .ledger))
       (λ why u e. absurd (number-refused why e))
       (λ ok e.
       let f = push-facts l t table p ok in
       let k = place isFree (records l) in
       let r = pushRecord l t table p (rec l k) in
       let a = push-after l t table p o y f in
-      numbered-stands l t k r (isReference (p .fresh) (p .client)) (t + referenceLifetime) (push-found l t table p o y f .inside) (a .long)
+      numbered-stands l t k r (isReference (p .fresh) (p .client)) (t + lifetime table p) (push-found l t table p o y f .inside) (a .long)
       (reference-says (p .fresh) (p .client) r .1 (a .state-is, (a .value-is, a .client-is))) (a .expiry-is) (nextNumber l + 1))
 
 module _ (l : List ℕ) (t : ℕ) (d : DecideRequest) (out : List ℕ) (y : TypedDecide t d out) (says : d .yes ≡ true) where
@@ -133,18 +136,27 @@ found-expired : (q : List ℕ → Bool) (until t : ℕ) (m : List ℕ) (s : Stan
 found-expired q until t m s f =
     ap (λ (k : ℕ). expired t (rec m k)) (place-named q m (s .k) f) ∙ ap (λ (x : ℕ). leb x t) (s .expiry-is)
 
-pub decide-time : (a t : ℕ) (l : List ℕ) (c : Call) (b : Bool) → leb (a + referenceLifetime) t ≡ b → DecideAfter a t l c → answers (l, c) ≡ numberIf RecordExpired b
+-- the seconds meant by what a record says
+abbrev meant : ℕ → ℕ
+meant said = cond (eqb said 0) referenceLifetime said
+
+lasting : (said : ℕ) (c : List ℕ) → lifetimeSaid c ≡ said → lifetimeOf c ≡ meant said
+unfolding lifetimeOf
+lasting said c e = ap meant e
+
+pub decide-time : (said a t : ℕ) (l : List ℕ) (c : Call) (b : Bool) → leb (a + meant said) t ≡ b → DecideAfter said a t l c → answers (l, c) ≡ numberIf RecordExpired b
 unfolding decideChecks
-decide-time a t l c b h f =
+decide-time said a t l c b h f =
     let d = f .request in
     let call = decide t d (f .output) in
     let is-sound = not-false (sound l) (else-passes RecordExpired LedgerUnsound (checksOf l call) (f .in-order) refl) in
-    let s : Stands (isReference (d .reference) (d .client)) (a + referenceLifetime) l
+    let s : Stands (isReference (d .reference) (d .client)) (a + lifetime (f .table) (f .asked)) l
     = rw (f .same-reference, f .same-client, f .leaves) (push-stands (f .before) a (f .table) (f .asked) (f .bytes) (f .typed) (f .accepted)) in
     ap (λ (d : Call). answers (l, d)) (f .is)
     ∙ else-answers l call RecordExpired b (f .in-order)
-    (found-expired (isReference (d .reference) (d .client)) (a + referenceLifetime) t l s
+    (found-expired (isReference (d .reference) (d .client)) (a + lifetime (f .table) (f .asked)) t l s
     (reference-first l is-sound (d .reference) (d .client) (s .k) (s .inside) (s .passes))
+    ∙ ap (λ (n : ℕ). leb (a + n) t) (lasting said _ (f .lifetime-is))
     ∙ h)
 
 pub token-time : (a t : ℕ) (l : List ℕ) (c : Call) (b : Bool) → leb (a + codeLifetime) t ≡ b → TokenAfter a t l c → answers (l, c) ≡ numberIf RecordExpired b

@@ -19,8 +19,9 @@ use Rattle.sha256.specs.Word.{Σ0, Σ1, σ0, σ1}
 use Rattle.texts.specs.Base64url.{letter, characters, base64url}
 use Rattle.s256.specs.Rule.{matches}
 use Rattle.clients.specs.Fields.{client, entries}
+use Rattle.clients.specs.Lifetime.{lifetimeOf}
 use Rattle.clients.specs.Known.{hasId, hasKey, placeOf, isKnown}
-use Rattle.clients.specs.Sound.{lengthRight, idGiven, idsGiven, keyGiven, keysGiven, sameId, idsDistinct, restZero, restsZero, sound as tableSound}
+use Rattle.clients.specs.Sound.{lengthRight, idGiven, idsGiven, keyGiven, keysGiven, sameId, idsDistinct, lifetimeFits, lifetimesFit, restZero, restsZero, sound as tableSound}
 use Rattle.ledger.specs.Checks.{untimely, taken, isFree, isWith, isReference, isCode, isToken}
 use Rattle.ledger.specs.Fields.{rec, slots, records, stated}
 use Rattle.ledger.specs.Sound.{sized, numbersSound, bytesSound, usedSound, noToken, someToken, recordSound, sameGrant, holds, meets, ownApart, headSound, sound}
@@ -92,7 +93,7 @@ pub record Computed : Type 0 where
   pub second-number : grantOf (step (last (started 2) otherFirst) (callAt 1030 pushes) .answer) ≡ 2
 
 pub computed : Computed
-unfolding tabulate numFrom num digits laid put blank zeros same visible urlSafe unreserved redirectFormed challengeFormed verifierFormed redirectPrefix client entries hasId hasKey placeOf isKnown lengthRight idGiven idsGiven keyGiven keysGiven sameId idsDistinct restZero restsZero tableSound untimely taken isFree isWith isReference isCode isToken rec slots records sized stated numbersSound bytesSound usedSound noToken someToken recordSound sameGrant holds meets ownApart headSound sound pushed consented redeemed free first scopeFits emptyLedger pushChecks pushRecord pushAt doPush decideChecks consentRecord consentAt declineAt decideAt doDecide tokenChecks tokenRecord tokenAt doToken resourceChecks look doResource step K added compress hashValue joined sha256 pad blocks T1 round rounds next words schedule Σ0 Σ1 σ0 σ1 letter characters base64url matches sweptRecord sweptTo swept due freedOf freed sweepChecks doSweep
+unfolding tabulate numFrom num digits laid put blank zeros same visible urlSafe unreserved redirectFormed challengeFormed verifierFormed redirectPrefix client entries hasId hasKey placeOf isKnown lifetimeOf lengthRight idGiven idsGiven keyGiven keysGiven sameId idsDistinct lifetimeFits lifetimesFit restZero restsZero tableSound untimely taken isFree isWith isReference isCode isToken rec slots records sized stated numbersSound bytesSound usedSound noToken someToken recordSound sameGrant holds meets ownApart headSound sound pushed consented redeemed free first scopeFits emptyLedger pushChecks pushRecord pushAt doPush decideChecks consentRecord consentAt declineAt decideAt doDecide tokenChecks tokenRecord tokenAt doToken resourceChecks look doResource step K added compress hashValue joined sha256 pad blocks T1 round rounds next words schedule Σ0 Σ1 σ0 σ1 letter characters base64url matches sweptRecord sweptTo swept due freedOf freed sweepChecks doSweep
 computed =
     record {
       accepted = λ (k : Kind). elim k [ pushes ↦ refl | decides ↦ refl | redeems ↦ refl | reads ↦ refl | sweeps ↦ refl ];

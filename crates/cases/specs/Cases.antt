@@ -10,7 +10,7 @@ use Rattle.octets.specs.Lists.{every}
 use Rattle.forms.specs.Forms.{unreserved, challengeFormed, verifierFormed}
 use Rattle.sha256.specs.Pad.{blocks}
 use Rattle.ledger.specs.Limits.{recordsLeast, recordsMost}
-use Rattle.clients.specs.Fields.{permitted}
+use Rattle.clients.specs.Fields.{permitted, lifetimeSaid}
 use Rattle.desk.specs.Answers.{numberOf, done}
 use Rattle.desk.specs.Requests.{PushRequest, DecideRequest, TokenRequest, ResourceRequest}
 use Rattle.desk.specs.Start.{start}
@@ -28,8 +28,8 @@ pub data Varied : Type 0 where
   startLength : ℕ → Varied
   startByte : ℕ → ℕ → Varied
   startOther : ℕ → ℕ → Varied
-  -- a push at the first time, and decide of it at the second; a consent, and token of it; a token, and resource of it
-  decideTime : ℕ → ℕ → Varied
+  -- for a client whose record says this lifetime, a push at the first time, and decide of it at the second; a consent, and token of it; a token, and resource of it
+  decideTime : ℕ → ℕ → ℕ → Varied
   tokenTime : ℕ → ℕ → Varied
   resourceTime : ℕ → ℕ → Varied
   -- push, of permitted bits, the bits asked
@@ -48,11 +48,12 @@ pub data Varied : Type 0 where
 
 -- ---- on which inputs all else is in order: l is the ledger that call c finds
 
--- c decides at time b on what was pushed at time a
-pub record DecideAfter (a b : ℕ) (l : List ℕ) (c : Call) : Type 0 where
+-- c decides at time b on what was pushed at time a by a client whose record says this lifetime
+pub record DecideAfter (said a b : ℕ) (l : List ℕ) (c : Call) : Type 0 where
   pub before : List ℕ
   pub table : List ℕ
   pub asked : PushRequest
+  pub lifetime-is : lifetimeSaid (clientRecord table asked) ≡ said
   pub bytes : Bytes before
   pub typed : TypedPush a table asked
   pub accepted : numberIn (step before (push a table asked) .answer) ≡ done
@@ -147,7 +148,7 @@ abbrev pub Input : Varied → Type 0
 Input (startLength n) = List ℕ
 Input (startByte n i) = List ℕ
 Input (startOther n i) = List ℕ × ℕ
-Input (decideTime a b) = List ℕ × Call
+Input (decideTime said a b) = List ℕ × Call
 Input (tokenTime a b) = List ℕ × Call
 Input (resourceTime a b) = List ℕ × Call
 Input (pushScope given bits) = List ℕ × Call
@@ -162,7 +163,7 @@ abbrev pub InOrder : (v : Varied) → Input v → Type 0
 InOrder (startLength n) l = length l ≡ n
 InOrder (startByte n i) l = length l ≡ n
 InOrder (startOther n i) x = (length (x .0) ≡ n) × ((x .1 < n) × (x .1 ≢ i))
-InOrder (decideTime a b) x = DecideAfter a b (x .0) (x .1)
+InOrder (decideTime said a b) x = DecideAfter said a b (x .0) (x .1)
 InOrder (tokenTime a b) x = TokenAfter a b (x .0) (x .1)
 InOrder (resourceTime a b) x = ResourceAfter a b (x .0) (x .1)
 InOrder (pushScope given bits) x = PushScope given bits (x .0) (x .1)
@@ -182,7 +183,7 @@ abbrev pub outcome : (v : Varied) → Input v → ℕ
 outcome (startLength n) l = start l .answer
 outcome (startByte n i) l = getD (start l .ledger) i 0
 outcome (startOther n i) x = getD (start (x .0) .ledger) (x .1) 0
-outcome (decideTime a b) x = answers x
+outcome (decideTime said a b) x = answers x
 outcome (tokenTime a b) x = answers x
 outcome (resourceTime a b) x = answers x
 outcome (pushScope given bits) x = answers x

@@ -34,9 +34,12 @@ rows =
     -- "51,232 bytes accepted, 51,488: 1"
     ∷ P 3 (startLength 51232) 0
     ∷ P 3 (startLength 51488) 1
-    -- "push at 1,000: decide at 1,598 accepted, at 1,599: 11"
-    ∷ P 4 (decideTime 1000 1598) 0
-    ∷ P 4 (decideTime 1000 1599) 11
+    -- "push at 1,000: decide at 1,598 accepted, at 1,599: 11"; "P4 is for a record that says 599"
+    ∷ P 4 (decideTime 599 1000 1598) 0
+    ∷ P 4 (decideTime 599 1000 1599) 11
+    -- "0 meaning 90": the same edge for a record that says 0
+    ∷ P 4 (decideTime 0 1000 1089) 0
+    ∷ P 4 (decideTime 0 1000 1090) 11
     -- "consent at 1,000: token at 1,059 accepted, at 1,060: 11"
     ∷ P 5 (tokenTime 1000 1059) 0
     ∷ P 5 (tokenTime 1000 1060) 11

@@ -8,18 +8,24 @@ use Rattle.octets.specs.Lists.{every, some}
 use Rattle.octets.proofs.Lists.{every-and, place-lt, place-some}
 use Rattle.octets.proofs.Tests.{false-of}
 use Rattle.clients.specs.Fields.{clients, client, entries}
-use Rattle.clients.specs.Sound.{lengthRight, idGiven, idsGiven, keyGiven, keysGiven, idsDistinct, restZero, restsZero, sound, soundRecord}
+use Rattle.clients.specs.Sound.{lengthRight, idGiven, idsGiven, keyGiven, keysGiven, idsDistinct, lifetimeFits, lifetimesFit, restZero, restsZero, sound, soundRecord}
 use Rattle.clients.specs.Known.{hasId, hasKey, placeOf, isKnown, known}
 use Rattle.clients.specs.declared.known.Known.the-variants.{At, Unknown}
 use Rattle.clients.proofs.Entries.{length-entries}
 
 -- ---- check 3: the rules of one record in one pass, the pairs last
 
-record-rules : (l : List (List ℕ)) → every soundRecord l ≡ (every idGiven l && (every keyGiven l && every restZero l))
-unfolding soundRecord
+-- the lifetime and the bytes behind it
+lastRules : List ℕ → Bool
+lastRules c = lifetimeFits c && restZero c
+
+record-rules : (l : List (List ℕ)) → every soundRecord l ≡ (every idGiven l && (every keyGiven l && (every lifetimeFits l && every restZero l)))
+unfolding soundRecord lastRules
 record-rules l =
-    every-and soundRecord idGiven (λ (c : List ℕ). keyGiven c && restZero c) (λ c. refl) l
-    ∙ ap (λ (b : Bool). every idGiven l && b) (every-and (λ (c : List ℕ). keyGiven c && restZero c) keyGiven restZero (λ c. refl) l)
+    every-and soundRecord idGiven (λ (c : List ℕ). keyGiven c && lastRules c) (λ c. refl) l
+    ∙ ap (λ (b : Bool). every idGiven l && b)
+    (every-and (λ (c : List ℕ). keyGiven c && lastRules c) keyGiven lastRules (λ c. refl) l
+    ∙ ap (λ (b : Bool). every keyGiven l && b) (every-and lastRules lifetimeFits restZero (λ c. refl) l))
 
 pairs-last : (a b c d : Bool) → (a && (b && (c && d))) ≡ ((a && (b && d)) && c)
 pairs-last false b c d = refl
@@ -30,10 +36,10 @@ pairs-last true true false true = refl
 pairs-last true true false false = refl
 
 pub sound-order : (t : List ℕ) → sound t ≡ (lengthRight t && (every soundRecord (entries t) && idsDistinct t))
-unfolding sound idsGiven keysGiven restsZero
+unfolding sound idsGiven keysGiven lifetimesFit restsZero
 sound-order t =
     rw (record-rules (entries t))
-    (ap (λ (b : Bool). lengthRight t && b) (pairs-last (every idGiven (entries t)) (every keyGiven (entries t)) (idsDistinct t) (every restZero (entries t))))
+    (ap (λ (b : Bool). lengthRight t && b) (pairs-last (every idGiven (entries t)) (every keyGiven (entries t)) (idsDistinct t) (every lifetimeFits (entries t) && every restZero (entries t))))
 
 -- ---- check 4: the id first, then the key
 

@@ -14,7 +14,7 @@ use Rattle.octets.proofs.Lists.{every-at, every-of, every-hit, every-miss, some
 use Rattle.octets.proofs.Parts.{part-length}
 use Rattle.octets.proofs.Tabulate.{length-tabulate, getD-tabulate}
 use Rattle.clients.specs.Limits.{clientSize}
-use Rattle.clients.specs.Fields.{clients, client, entries, idSpan, id, permittedSpan, permitted}
+use Rattle.clients.specs.Fields.{clients, client, entries, idSpan, id}
 
 pub length-entries : (t : List ℕ) → length (entries t) ≡ clients t
 unfolding entries
@@ -51,11 +51,11 @@ client-past t k h =
     let w : length t ≤ length t = omega arith in
     rw (drop-of-length-le t w) (sym (client-none t k h))
 
--- the number of the permitted bits, read off the bytes cut out for it
-pub permitted-read : (c s : List ℕ) → s ≡ field permittedSpan c → num (take (permittedSpan .width) s) ≡ permitted c
-permitted-read c s e =
-    let n = permittedSpan .width in
-    ap (λ (x : List ℕ). num (take n x)) e ∙ ap num (take-take n n (drop (permittedSpan .place) c) (omega arith))
+-- the number of a field, read off the bytes cut out for it
+pub field-read : (w : Span) (c s : List ℕ) → s ≡ field w c → num (take (w .width) s) ≡ num (field w c)
+field-read w c s e =
+    let n = w .width in
+    ap (λ (x : List ℕ). num (take n x)) e ∙ ap num (take-take n n (drop (w .place) c) (omega arith))
 
 -- ---- a test of all records
 

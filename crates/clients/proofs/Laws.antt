@@ -13,9 +13,9 @@ use Rattle.octets.specs.Parts.{blank, zeros}
 use Rattle.octets.proofs.Lists.{place-lt, place-ok, place-first, place-is, none-inside, apart-inside, apart-of-inside}
 use Rattle.octets.proofs.Parts.{zeros-eq, zeros-blank, same-eq, same-of, differ-is, differ-of, given-is, given-of}
 use Rattle.octets.proofs.Tests.{both, both-true}
-use Rattle.clients.specs.Limits.{clientsLeast, clientsMost, clientSize}
-use Rattle.clients.specs.Fields.{clients, client, entries, idSpan, id, authKeySpan, authKey, restSpan}
-use Rattle.clients.specs.Sound.{lengthRight, idGiven, idsGiven, keyGiven, keysGiven, sameId, idsDistinct, restZero, restsZero, sound}
+use Rattle.clients.specs.Limits.{clientsLeast, clientsMost, clientSize, lifetimeMost}
+use Rattle.clients.specs.Fields.{clients, client, entries, idSpan, id, authKeySpan, authKey, lifetimeSaid, restSpan}
+use Rattle.clients.specs.Sound.{lengthRight, idGiven, idsGiven, keyGiven, keysGiven, sameId, idsDistinct, lifetimeFits, lifetimesFit, restZero, restsZero, sound}
 use Rattle.clients.specs.Plain.{SoundTable}
 use Rattle.clients.specs.Known.{hasId, hasKey, placeOf, atIf, isKnown, known}
 use Rattle.clients.specs.declared.known.Known.the-variants.{At, Unknown}
@@ -49,7 +49,7 @@ distinct-is t e i j a b s = by (ltb i j) refl (ltb j i) refl
 
 module _ (t : List ℕ) where
   pub of-sound : sound t ≡ true → SoundTable t
-  unfolding sound lengthRight idsGiven idGiven keysGiven keyGiven restsZero restZero
+  unfolding sound lengthRight idsGiven idGiven keysGiven keyGiven lifetimesFit lifetimeFits restsZero restZero
   of-sound e =
       let r = both (lengthRight t) _ e in
       let w = both (eqb (length t) (clientSize * clients t)) _ (r .0) in
@@ -57,6 +57,7 @@ module _ (t : List ℕ) where
       let i = both (idsGiven t) _ (r .1) in
       let k = both (keysGiven t) _ (i .1) in
       let d = both (idsDistinct t) _ (k .1) in
+      let s = both (lifetimesFit t) _ (d .1) in
       record {
         whole = eqb-true _ _ (w .0);
         least = leb-true _ _ (n .0);
@@ -64,11 +65,12 @@ module _ (t : List ℕ) where
         ids = λ j h. given-is _ (idSpan .width) (at-each t idGiven (i .0) j h);
         keys = λ j h. given-is _ (authKeySpan .width) (at-each t keyGiven (k .0) j h);
         distinct = distinct-is t (d .0);
-        rests = λ j h. zeros-eq _ (at-each t restZero (d .1) j h) ∙ ap blank (field-length t j h restSpan (omega arith));
+        lifetimes = λ j h. leb-true _ _ (at-each t lifetimeFits (s .0) j h);
+        rests = λ j h. zeros-eq _ (at-each t restZero (s .1) j h) ∙ ap blank (field-length t j h restSpan (omega arith));
       }
 
   pub to-sound : SoundTable t → sound t ≡ true
-  unfolding sound lengthRight idsGiven idGiven keysGiven keyGiven restsZero restZero
+  unfolding sound lengthRight idsGiven idGiven keysGiven keyGiven lifetimesFit lifetimeFits restsZero restZero
   to-sound s =
       let w = eq-eqb (length t) (clientSize * clients t) (s .whole) in
       let l = le-leb clientsLeast (clients t) (s .least) in
@@ -76,8 +78,9 @@ module _ (t : List ℕ) where
       let i = of-each t idGiven (λ k h. given-of _ (idSpan .width) (field-length t k h idSpan (omega arith)) (s .ids k h)) in
       let k = of-each t keyGiven (λ k h. given-of _ (authKeySpan .width) (field-length t k h authKeySpan (omega arith)) (s .keys k h)) in
       let d = distinct-of t (s .distinct) in
+      let f = of-each t lifetimeFits (λ k h. le-leb (lifetimeSaid (client t k)) lifetimeMost (s .lifetimes k h)) in
       let r = of-each t restZero (λ k h. ap zeros (s .rests k h) ∙ zeros-blank (restSpan .width)) in
-      both-true _ _ (both-true _ _ w (both-true _ _ l m)) (both-true _ _ i (both-true _ _ k (both-true _ _ d r)))
+      both-true _ _ (both-true _ _ w (both-true _ _ l m)) (both-true _ _ i (both-true _ _ k (both-true _ _ d (both-true _ _ f r))))
 
   pub table-says : (sound t ≡ true) ↔ SoundTable t
   table-says = (of-sound, to-sound)

@@ -2,3 +2,4 @@
 pub mod Entries
 pub mod Checks
 pub mod Laws
+pub mod Profile

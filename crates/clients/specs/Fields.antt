@@ -1,4 +1,4 @@
--- Where the fields of the client table are (document 01, section "Client table").
+-- Where the fields of the client table are (document 01, section "Client table"; document 02, Q-2).
 use Prim.Native.Nat.{ℕ, _*_, _/_}
 use mathlib.Core.List.{List}
 use lib.ListN.{length}
@@ -41,9 +41,16 @@ permittedSpan = span 48 52
 abbrev pub permitted : List ℕ → ℕ
 permitted c = num (field permittedSpan c)
 
--- "52..64 zero"
+-- "client bytes 52..54 now hold a lifetime": what the record says
+abbrev pub lifetimeSpan : Span
+lifetimeSpan = span 52 54
+
+abbrev pub lifetimeSaid : List ℕ → ℕ
+lifetimeSaid c = num (field lifetimeSpan c)
+
+-- "Document 01's zero rule for these bytes is amended": of 52..64 there are left to be zero
 abbrev pub restSpan : Span
-restSpan = span 52 64
+restSpan = span 54 64
 
 abbrev pub rest : List ℕ → List ℕ
 rest c = field restSpan c

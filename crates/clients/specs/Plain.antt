@@ -5,10 +5,10 @@ use mathlib.Core.Logic.{_≢_}
 use mathlib.Core.List.{List}
 use lib.ListN.{length}
 use Rattle.octets.specs.Parts.{blank}
-use Rattle.clients.specs.Limits.{clientsLeast, clientsMost, clientSize}
-use Rattle.clients.specs.Fields.{clients, client, idSpan, id, authKeySpan, authKey, restSpan, rest}
+use Rattle.clients.specs.Limits.{clientsLeast, clientsMost, clientSize, lifetimeMost}
+use Rattle.clients.specs.Fields.{clients, client, idSpan, id, authKeySpan, authKey, lifetimeSaid, restSpan, rest}
 
--- "Sound: length right, no id or key all zeros, ids distinct, last twelve bytes zero."
+-- "Sound: length right, no id or key all zeros, ids distinct, last twelve bytes zero."; of these two hold a lifetime: "3 also when the field is above 599"
 pub record SoundTable (t : List ℕ) : Type 0 where
   pub whole : length t ≡ clientSize * clients t
   pub least : clientsLeast ≤ clients t
@@ -16,6 +16,7 @@ pub record SoundTable (t : List ℕ) : Type 0 where
   pub ids : (k : ℕ) → k < clients t → id (client t k) ≢ blank (idSpan .width)
   pub keys : (k : ℕ) → k < clients t → authKey (client t k) ≢ blank (authKeySpan .width)
   pub distinct : (i j : ℕ) → i < clients t → j < clients t → id (client t i) ≡ id (client t j) → i ≡ j
+  pub lifetimes : (k : ℕ) → k < clients t → lifetimeSaid (client t k) ≤ lifetimeMost
   pub rests : (k : ℕ) → k < clients t → rest (client t k) ≡ blank (restSpan .width)
 
 -- record k of the table has this id and this authentication key

@@ -33,9 +33,13 @@ impl Field {
 
     pub const PERMITTED_WIDTH: usize = 4;
 
-    pub const REST: usize = 52;
+    pub const LIFETIME: usize = 52;
 
-    pub const REST_WIDTH: usize = 12;
+    pub const LIFETIME_WIDTH: usize = 2;
+
+    pub const REST: usize = 54;
+
+    pub const REST_WIDTH: usize = 10;
 }
 
 // How many whole records the table has.
@@ -55,7 +59,7 @@ pub fn client_at(table: &[u8], k: usize) -> &[u8]
     cut(table, Client::SIZE * k, Client::SIZE)
 }
 
-// The permitted scope bits: all that a push asks of the client's record.
+// The permitted scope bits of record k.
 pub fn permitted(table: &[u8], k: usize) -> u32
     ensures { λ r. ⌜ r ≡ permitted (client (now (table .entry)) k) ⌝ }
 {

@@ -5,6 +5,7 @@ ghost use Rattle.clients.specs.Limits.{clientsLeast, clientsMost};
 ghost use Prim.Native.Nat.{_<_};
 ghost use Rattle.clients.specs.Fields.{clients, client, entries, id};
 ghost use Rattle.clients.specs.Sound.{lengthRight, soundRecord, idsDistinct, checkTable};
+use super::lifetime;
 use super::record;
 use super::record::Client;
 use super::record::Field;
@@ -55,6 +56,9 @@ fn sound_record(c: &[u8]) -> bool
         return false;
     }
     if is_zero(cut(c, Field::AUTH_KEY, Field::AUTH_KEY_WIDTH)) {
+        return false;
+    }
+    if !lifetime::fits(c) {
         return false;
     }
     is_zero(cut(c, Field::REST, Field::REST_WIDTH))

@@ -38,32 +38,26 @@ use Rattle.ledger_laws.proofs.Kept.{head-swept}
 use Rattle.ledger_laws.proofs.Written.{redirect-front}
 use Rattle.clients.specs.Fields.{idSpan}
 use Rattle.clients.specs.Known.{placeOf}
-use Rattle.clients.specs.Fields.{idSpan}
 use Rattle.clients.proofs.Entries.{field-length}
 use Rattle.desk.specs.Limits.{outputLeast}
 use Rattle.desk.specs.Answers.{done}
-use Rattle.desk.specs.Requests.{PushRequest, DecideRequest, TokenRequest, ResourceRequest}
+use Rattle.desk.specs.Requests.{PushRequest, DecideRequest, TokenRequest, ResourceRequest, PendingRequest}
 use Rattle.desk.specs.Start.{emptyLedger}
-use Rattle.desk.specs.Push.{pushRecord, pushAt}
+use Rattle.desk.specs.Push.{pushRecord, pushAt, clientRecord}
 use Rattle.desk.specs.Decide.{waitingPlace, referencePlace, handedOut, consentRecord, consentAt, declineAt, decideAt}
 use Rattle.desk.specs.Token.{codePlace, tokenRecord, tokenAt}
 use Rattle.desk.specs.Resource.{tokenPlace}
 use Rattle.desk.specs.Introspect.{textFor, introspectWith}
 use Rattle.call_laws.specs.Conditions.{StandsAt}
 use Rattle.desk.proofs.Turns.{number-refused}
-use Rattle.call_laws.proofs.Rows.{push-cases, decide-cases, token-cases, resource-cases, sweep-cases, introspect-cases}
-use Rattle.call_laws.proofs.Facts.{PushFacts, push-facts, DecideFacts, decide-facts, TokenFacts, token-facts, resource-facts, sweep-facts, introspect-facts}
+use Rattle.call_laws.proofs.Rows.{push-cases, decide-cases, token-cases, resource-cases, sweep-cases, introspect-cases, pending-cases}
+use Rattle.call_laws.proofs.Facts.{PushFacts, push-facts, DecideFacts, decide-facts, TokenFacts, token-facts, resource-facts, sweep-facts, introspect-facts, pending-facts}
 use Rattle.call_laws.proofs.Readings.{known-is, free-stands, reference-stands, code-stands, token-stands, text-so}
 use Rattle.call_laws.proofs.Alone.{length-pushed, length-consented, length-redeemed, push-next, start-writes, sweep-alone}
 use Rattle.demands.specs.Layout.{clockBytes, nextBytes, eightBytes, valueLong, keyLong}
-use Rattle.demands.specs.Calls.{start, push, decide, token, resource, sweep, introspect, four, three, Left, leaves}
-use Rattle.demands.specs.Afterwards.{Entered, Consenting, Redeeming, AllButOne, told, AfterStart, AfterPush, AfterDecide, AfterToken, AfterResource, AfterSweep, AfterIntrospect}
-use Rattle.desk.specs.Requests.{PendingRequest}
+use Rattle.demands.specs.Calls.{start, push, decide, token, resource, sweep, introspect, four, three, Left, leaves, pending}
+use Rattle.demands.specs.Afterwards.{Entered, Consenting, Redeeming, AllButOne, told, AfterStart, AfterPush, AfterDecide, AfterToken, AfterResource, AfterSweep, AfterIntrospect, AfterPending}
 use Rattle.desk.specs.Pending.{pendingPlace, pendingAt}
-use Rattle.call_laws.proofs.Rows.{pending-cases}
-use Rattle.call_laws.proofs.Facts.{pending-facts}
-use Rattle.demands.specs.Calls.{pending}
-use Rattle.demands.specs.Afterwards.{AfterPending}
 use Rattle.demands.proofs.Written.{entered, consenting, redeeming}
 
 -- ---- the head
@@ -161,22 +155,22 @@ module _ (l : List ℕ) (t : ℕ) (table : List ℕ) (p : PushRequest) where
   push-record f = length-pushed _ _ _ _ _ _ _ (rec l room-place) ∙ rec-length l room-place (first-in isFree l (f .room) .inside)
 
   -- an id that a table has is 16 bytes long, and a free record is all zeros
-  push-entered : PushFacts l t table p → length (p .fresh) ≡ valueLong → Entered l t p (rec l room-place) (pushRecord l t table p (rec l room-place))
+  push-entered : PushFacts l t table p → length (p .fresh) ≡ valueLong → Entered l t (clientRecord table p) p (rec l room-place) (pushRecord l t table p (rec l room-place))
   unfolding pushRecord
   push-entered f v =
       let x = first-in isFree l (f .room) in
       let y = known-is table (p .client) (p .key) (f .known) in
       let i : length (p .client) ≡ 16 = ap length (sym (y .id-is)) ∙ field-length table (placeOf table (p .client)) (y .inside) idSpan (omega arith) in
       let (a, b) = both (redirectFormed (p .redirect)) (challengeFormed (p .challenge)) (f .formed) in
-      entered l t p (rec l room-place) i (challenge-length (p .challenge) b) v (redirect-length (p .redirect) a .1) (rec-length l room-place (x .inside))
+      entered l t (clientRecord table p) p (rec l room-place) i (challenge-length (p .challenge) b) v (redirect-length (p .redirect) a .1) (rec-length l room-place (x .inside))
       (ap zeros (free-found l (f .ledger-sound) room-place (x .inside) (x .passes)) ∙ zeros-free)
 
-  pub after-push : leaves l table (push t p) .number ≡ done → AfterPush l t p (leaves l table (push t p))
+  pub after-push : leaves l table (push t p) .number ≡ done → AfterPush l t table p (leaves l table (push t p))
   unfolding pushAt
   after-push e₀ =
       push-cases l t table p
       (λ o. (Bytes l → nextNumber (o .ledger) ≡ nextNumber l + 1) → o .answer .number ≡ done
-      → AfterPush l t p (record { number = o .answer .number; beside = four (o .answer); ledger = o .ledger; output = [] }))
+      → AfterPush l t table p (record { number = o .answer .number; beside = four (o .answer); ledger = o .ledger; output = [] }))
       (λ why u rises e. absurd (number-refused why e))
       (λ ok rises e.
       let f = push-facts l t table p ok in
@@ -187,6 +181,8 @@ module _ (l : List ℕ) (t : ℕ) (table : List ℕ) (p : PushRequest) where
       record {
         k = room-place;
         place = free-stands l room-place .0 x;
+        clientPlace = placeOf table (p .client);
+        known = known-is table (p .client) (p .key) (f .known);
         written = λ v. rw here (push-entered f v);
         others = two-others t l room-place r (x .inside) n (nextNumber l + 1);
         next-is = two-next t l room-place r (x .inside) n (nextNumber l + 1);

@@ -23,7 +23,7 @@ allowed l table (sweep t) = sweep-accepted l t
 allowed l table (pending t p out) = pending-accepted l t p out
 allowed l table (introspect t v out) = introspect-accepted l t v out
 
-after : (l table : List ℕ) (c : Call) → leaves l table c .number ≡ done → After l c (leaves l table c)
+after : (l table : List ℕ) (c : Call) → leaves l table c .number ≡ done → After l table c (leaves l table c)
 after l table start = after-start l
 after l table (push t p) = after-push l t table p
 after l table (decide t d out) = after-decide l t d out

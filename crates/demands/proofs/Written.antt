@@ -11,9 +11,10 @@ use Rattle.octets.specs.Spans.{Span, field}
 use Rattle.octets.proofs.Parts.{part-length, zeros-eq}
 use Rattle.octets.proofs.Bytes.{zeros-part, zeros-drop}
 use Rattle.forms.specs.Limits.{redirectMost}
-use Rattle.ledger.specs.Limits.{referenceLifetime, codeLifetime, tokenLifetime}
+use Rattle.ledger.specs.Limits.{codeLifetime, tokenLifetime}
 use Rattle.ledger.specs.Fields.{nextNumber, stateSpan, redirectLengthSpan, gapOneSpan, scopeSpan, grantSpan, expirySpan, holderSpan, clientSpan, challengeSpan, gapTwoSpan, valueSpan, tokenSpan, boundKeySpan, redirectSpan, redirectField}
 use Rattle.ledger.specs.Write.{pushed, consented, redeemed}
+use Rattle.clients.specs.Lifetime.{lifetimeOf}
 use Rattle.ledger_laws.proofs.Puts.{put-wide, Store, of-number, of-bytes, stored, clean, reads, length-stored, stored-reads, stored-spared}
 use Rattle.desk.specs.Requests.{PushRequest, DecideRequest, TokenRequest}
 use Rattle.demands.specs.Afterwards.{Entered, Consenting, Redeeming}
@@ -23,6 +24,7 @@ use Rattle.demands.specs.Afterwards.{Entered, Consenting, Redeeming}
 module _
     (l : List ℕ)
     (t : ℕ)
+    (client : List ℕ)
     (p : PushRequest)
     (r : List ℕ)
     (i : length (p .client) ≡ 16)
@@ -37,7 +39,7 @@ module _
         of-bytes valueSpan (p .fresh) v (lit≤ tt)
         ∷ of-bytes challengeSpan (p .challenge) c (lit≤ tt)
         ∷ of-bytes clientSpan (p .client) i (lit≤ tt)
-        ∷ of-number expirySpan (t + referenceLifetime) (lit≤ tt)
+        ∷ of-number expirySpan (t + lifetimeOf client) (lit≤ tt)
         ∷ of-number grantSpan (nextNumber l) (lit≤ tt)
         ∷ of-number scopeSpan (p .scope) (lit≤ tt)
         ∷ of-number redirectLengthSpan (length (p .redirect)) (lit≤ tt)
@@ -65,7 +67,7 @@ module _
     push-stores = of-bytes redirectSpan whole-field field-long (lit≤ tt) ∷ first-stores
 
     abbrev the-pushed : List ℕ
-    the-pushed = pushed (p .scope) (nextNumber l) (t + referenceLifetime) (p .client) (p .challenge) (p .fresh) (p .redirect) r
+    the-pushed = pushed (p .scope) (nextNumber l) (t + lifetimeOf client) (p .client) (p .challenge) (p .fresh) (p .redirect) r
 
     push-stored : the-pushed ≡ stored push-stores r
     unfolding pushed
@@ -76,7 +78,7 @@ module _
     push-at : (s : Span) → clean push-stores s ≡ true → field s the-pushed ≡ reads push-stores r s
     push-at s e = ap (field s) push-stored ∙ stored-reads push-stores r long s e
 
-    pub entered : Entered l t p r the-pushed
+    pub entered : Entered l t client p r the-pushed
     entered =
         record {
           state-is = push-at stateSpan refl;

@@ -8,10 +8,13 @@ use lib.ListN.{length, drop}
 use Rattle.octets.specs.Plain.{Bytes}
 use Rattle.octets.specs.Parts.{blank}
 use Rattle.forms.specs.Limits.{redirectMost}
-use Rattle.ledger.specs.Limits.{recordSize, referenceLifetime, codeLifetime, tokenLifetime}
+use Rattle.ledger.specs.Limits.{recordSize, codeLifetime, tokenLifetime}
 use Rattle.ledger.specs.Fields.{nextNumber, headRest, rec, slots, state, stateNumber, redirectLength, gapOne, scope, grant, expiry, holder, client, challenge, gapTwo, value, token, boundKey, redirectField, redirect}
 use Rattle.ledger.specs.Sweep.{freedOf}
 use Rattle.ledger.specs.declared.state.State.the-variants.{Free, Pushed, Consented, Redeemed}
+use Rattle.clients.specs.Fields.{client as entry}
+use Rattle.clients.specs.Lifetime.{lifetimeOf}
+use Rattle.clients.specs.Plain.{KnownAt}
 use Rattle.desk.specs.Limits.{outputLeast}
 use Rattle.desk.specs.Requests.{PushRequest, DecideRequest, TokenRequest, ResourceRequest}
 use Rattle.call_laws.specs.Conditions.{FirstFree, StandsAt, TokenAt, TextFor}
@@ -21,14 +24,15 @@ use Rattle.demands.specs.Calls.{Left}
 
 -- ---- the record written: s is what r became
 
--- push: "becomes state 1 with the next grant number, value = fresh, expiry = now + 599"; with the scope, the client id, the challenge and the redirect of the request
-pub record Entered (l : List ℕ) (t : ℕ) (p : PushRequest) (r s : List ℕ) : Type 0 where
+-- push: "becomes state 1 with the next grant number, value = fresh, expiry = now + ..", the lifetime of the client, whose record is c; with the scope, the client id, the
+-- challenge and the redirect of the request
+pub record Entered (l : List ℕ) (t : ℕ) (c : List ℕ) (p : PushRequest) (r s : List ℕ) : Type 0 where
   pub state-is : stateByte s ≡ stateNumber Pushed ∷ []
   pub length-is : lengthByte s ≡ byte (length (p .redirect))
   pub gap-one-stays : gapOne s ≡ gapOne r
   pub scope-is : scopeBytes s ≡ fourBytes (p .scope)
   pub grant-is : grantBytes s ≡ eightBytes (nextNumber l)
-  pub expiry-is : expiryBytes s ≡ eightBytes (t + referenceLifetime)
+  pub expiry-is : expiryBytes s ≡ eightBytes (t + lifetimeOf c)
   pub holder-stays : holderBytes s ≡ holderBytes r
   pub client-is : client s ≡ p .client
   pub challenge-is : challenge s ≡ p .challenge
@@ -93,10 +97,12 @@ pub record AfterStart (l : List ℕ) (a : Left) : Type 0 where
   pub answer-is : a .beside ≡ []
 
 -- "The first free record in ledger order becomes state 1 ..", "The next number rises by one."
-pub record AfterPush (l : List ℕ) (t : ℕ) (p : PushRequest) (a : Left) : Type 0 where
+pub record AfterPush (l : List ℕ) (t : ℕ) (table : List ℕ) (p : PushRequest) (a : Left) : Type 0 where
   pub k : ℕ
   pub place : FirstFree l k
-  pub written : length (p .fresh) ≡ valueLong → Entered l t p (rec l k) (rec (a .ledger) k)
+  pub clientPlace : ℕ
+  pub known : KnownAt table (p .client) (p .key) clientPlace
+  pub written : length (p .fresh) ≡ valueLong → Entered l t (entry table clientPlace) p (rec l k) (rec (a .ledger) k)
   pub others : AllButOne t l (a .ledger) k
   pub next-is : nextBytes (a .ledger) ≡ eightBytes (nextNumber l + 1)
   pub next-rises : Bytes l → nextNumber (a .ledger) ≡ nextNumber l + 1

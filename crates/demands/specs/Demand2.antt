@@ -25,15 +25,15 @@ Allowed l table (pending t p out) = PendingAccepted l t p out
 Allowed l table (introspect t v out) = IntrospectAccepted l t v out
 
 -- and what an accepted call leaves
-abbrev pub After : List ℕ → Call → Left → Type 0
-After l start a = AfterStart l a
-After l (push t p) a = AfterPush l t p a
-After l (decide t d out) a = AfterDecide l t d out a
-After l (token t q) a = AfterToken l t q a
-After l (resource t q) a = AfterResource l t q a
-After l (sweep t) a = AfterSweep l t a
-After l (pending t p out) a = AfterPending l p out a
-After l (introspect t v out) a = AfterIntrospect l t v out a
+abbrev pub After : List ℕ → List ℕ → Call → Left → Type 0
+After l table start a = AfterStart l a
+After l table (push t p) a = AfterPush l t table p a
+After l table (decide t d out) a = AfterDecide l t d out a
+After l table (token t q) a = AfterToken l t q a
+After l table (resource t q) a = AfterResource l t q a
+After l table (sweep t) a = AfterSweep l t a
+After l table (pending t p out) a = AfterPending l p out a
+After l table (introspect t v out) a = AfterIntrospect l t v out a
 
 pub record Demand2 : Type 0 where
   -- "A call is accepted exactly when the FAPI 2.0 Security Profile, .. as condensed in document 01, allow it."
@@ -41,4 +41,4 @@ pub record Demand2 : Type 0 where
   -- and is refused with the number of a row "exactly when its turn comes and" its condition holds
   pub refused : (l table : List ℕ) (c : Call) (why : Refusal) → (leaves l table c .number ≡ numberOf why) ↔ Turn why (rows l table c)
   -- "The answer and the ledger afterwards are the ones written there."
-  pub afterwards : (l table : List ℕ) (c : Call) → leaves l table c .number ≡ done → After l c (leaves l table c)
+  pub afterwards : (l table : List ℕ) (c : Call) → leaves l table c .number ≡ done → After l table c (leaves l table c)

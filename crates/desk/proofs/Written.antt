@@ -104,7 +104,7 @@ module _ (l : List ℕ) (t k a : ℕ) (inside : k < slots l) (short : length l <
 
 -- what is written at the place found is what the definition says
 pub push-at : (l : List ℕ) (t : ℕ) (table : List ℕ) (p : PushRequest) (k bits number until : ℕ) → freePlace l ≡ k
-    → grantedBits (p .scope) (permitted (clientRecord table p)) ≡ bits → number ≡ nextNumber l → until ≡ t + lifetime (clientRecord table p)
+    → grantedBits (p .scope) (permitted (clientRecord table p)) ≡ bits → number ≡ nextNumber l → until ≡ t + lifetime table p
     → entered l t k number (pushed bits number until (p .client) (p .challenge) (p .fresh) (p .redirect) (rec l k)) ≡ pushAt l t table p (freePlace l)
 unfolding pushAt pushRecord
 push-at l t table p k bits number until e hb hn hu = rw (e, ← hb, hn, hu)

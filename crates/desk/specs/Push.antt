@@ -5,11 +5,12 @@ use mathlib.Core.List.{List, [], _∷_}
 use lib.Dec.{eqb}
 use Rattle.octets.specs.Lists.{some, place}
 use Rattle.forms.specs.Forms.{redirectFormed, challengeFormed}
-use Rattle.ledger.specs.Limits.{referenceLifetime, lastNumber}
+use Rattle.ledger.specs.Limits.{lastNumber}
 use Rattle.ledger.specs.Fields.{records, rec, nextNumber, withRecord, withNext, withClock}
 use Rattle.ledger.specs.Checks.{isFree, taken}
 use Rattle.ledger.specs.Write.{pushed}
 use Rattle.clients.specs.Fields.{client, permitted}
+use Rattle.clients.specs.Lifetime.{lifetimeOf}
 use Rattle.clients.specs.Sound.{sound as tableSound}
 use Rattle.clients.specs.Known.{isKnown, placeOf}
 use Rattle.desk.specs.Answers.{answerOf, refused}
@@ -49,14 +50,14 @@ pushChecks l t table p =
 abbrev pub grantedBits : ℕ → ℕ → ℕ
 grantedBits asked permitted = asked
 
--- the seconds that a reference lives, by the client's record: the same for all
-abbrev pub lifetime : List ℕ → ℕ
-lifetime c = referenceLifetime
+-- the seconds that the reference of a push lives: what its client's record says
+abbrev pub lifetime : List ℕ → PushRequest → ℕ
+lifetime table p = lifetimeOf (clientRecord table p)
 
--- "The first free record in ledger order becomes state 1 with the next grant number, value = fresh, expiry = now + 599."
+-- "The first free record in ledger order becomes state 1 with the next grant number, value = fresh, expiry = now + ..": the lifetime
 unfoldable pub pushRecord : List ℕ → ℕ → List ℕ → PushRequest → List ℕ → List ℕ
 pushRecord l t table p r =
-    pushed (grantedBits (p .scope) (permitted (clientRecord table p))) (nextNumber l) (t + lifetime (clientRecord table p)) (p .client) (p .challenge)
+    pushed (grantedBits (p .scope) (permitted (clientRecord table p))) (nextNumber l) (t + lifetime table p) (p .client) (p .challenge)
     (p .fresh) (p .redirect) r
 
 -- record k becomes r, which has grant number n; "The next number rises by one." "the clock becomes now"

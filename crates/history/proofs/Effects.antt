@@ -17,7 +17,7 @@ use Rattle.octets.proofs.Numbers.{Octets}
 use Rattle.forms.specs.Forms.{challengeFormed, redirectFormed}
 use Rattle.forms.proofs.Laws.{challenge-length, redirect-length}
 use Rattle.s256.specs.Rule.{matches}
-use Rattle.ledger.specs.Limits.{referenceLifetime, codeLifetime, tokenLifetime, lastNumber, clockLimit}
+use Rattle.ledger.specs.Limits.{codeLifetime, tokenLifetime, lastNumber, clockLimit}
 use Rattle.ledger.specs.Fields.{
   clock,
   nextNumber,
@@ -52,14 +52,16 @@ use Rattle.ledger_laws.proofs.Says.{neither, of-sound}
 use Rattle.ledger_laws.proofs.Searches.{First, first-in}
 use Rattle.ledger_laws.proofs.Heads.{records-clock, next-clock, clock-is, length-next, records-next, next-is, next-with, next-left}
 use Rattle.ledger_laws.proofs.Kept.{head-swept, length-sweep}
+use Rattle.clients.specs.Limits.{profileReference}
 use Rattle.desk.specs.Checks.{scopeFits, within}
 use Rattle.desk.specs.Requests.{PushRequest, DecideRequest, TokenRequest, ResourceRequest}
-use Rattle.desk.specs.Push.{pushRecord, pushAt}
+use Rattle.desk.specs.Push.{lifetime, pushRecord, pushAt}
 use Rattle.desk.specs.Decide.{referencePlace, consentRecord, consentAt, declineAt}
 use Rattle.desk.specs.Token.{codePlace, tokenRecord, tokenAt}
 use Rattle.desk.specs.Resource.{tokenPlace}
 use Rattle.history.specs.Runs.{TypedPush, TypedDecide, TypedToken}
 use Rattle.call_laws.proofs.Facts.{PushFacts, DecideFacts, TokenFacts, ResourceFacts}
+use Rattle.call_laws.proofs.Profile.{lives-under}
 
 -- ---- what checks 1 and 2 say
 
@@ -127,7 +129,7 @@ wrote-next l t k s e f h n z =
 
 -- ---- push
 
-pub record Pushes (l : List ℕ) (t : ℕ) (p : PushRequest) (k : ℕ) (s m : List ℕ) : Type 0 where
+pub record Pushes (l : List ℕ) (t : ℕ) (table : List ℕ) (p : PushRequest) (k : ℕ) (s m : List ℕ) : Type 0 where
   pub wrote : Wrote l t (nextNumber l + 1) k s m
   pub was : state (rec l k) ≡ 0
   pub state-is : state s ≡ 1
@@ -135,7 +137,8 @@ pub record Pushes (l : List ℕ) (t : ℕ) (p : PushRequest) (k : ℕ) (s m : Li
   pub client-is : client s ≡ p .client
   pub scope-is : scope s ≡ p .scope
   pub challenge-is : challenge s ≡ p .challenge
-  pub expiry-is : expiry s ≡ t + referenceLifetime
+  pub expiry-is : expiry s ≡ t + lifetime table p
+  pub profile : lifetime table p < profileReference
 
 module _ (l : List ℕ) (t : ℕ) (table : List ℕ) (p : PushRequest) (o : Octets l) (y : TypedPush t table p) (f : PushFacts l t table p) where
   abbrev pub pushPlace : ℕ
@@ -150,17 +153,18 @@ module _ (l : List ℕ) (t : ℕ) (table : List ℕ) (p : PushRequest) (o : Octe
   push-next : nextNumber l < lastNumber
   push-next = next-left l o (let a = sound-long l (f .ledger-sound) in omega arith) (eqb-false (nextNumber l) lastNumber (f .numbers-left))
 
-  pub push-after : Leaves (rec l pushPlace) pushOne (pushedSlot (p .scope) (nextNumber l) (t + referenceLifetime) (p .client) (p .challenge) (p .fresh) (p .redirect) (slotOf (rec l pushPlace)))
+  pub push-after : Leaves (rec l pushPlace) pushOne (pushedSlot (p .scope) (nextNumber l) (t + lifetime table p) (p .client) (p .challenge) (p .fresh) (p .redirect) (slotOf (rec l pushPlace)))
   unfolding pushRecord
   push-after =
       let a = push-next in
       let b = time-below l t (f .in-time) in
+      let n = lives-under l t table p f in
       let (u, v) = both (redirectFormed (p .redirect)) (challengeFormed (p .challenge)) (f .formed) in
-      pushed-wrote (p .scope) (nextNumber l) (t + referenceLifetime) (p .client) (p .challenge) (p .fresh) (p .redirect) (rec l pushPlace)
+      pushed-wrote (p .scope) (nextNumber l) (t + lifetime table p) (p .client) (p .challenge) (p .fresh) (p .redirect) (rec l pushPlace)
       (y .scope) (omega arith) (omega arith) (y .client .long) (challenge-length (p .challenge) v) (y .fresh .long)
       (redirect-length (p .redirect) u .1) (rec-length l pushPlace (push-found .inside))
 
-  pub pushes : Pushes l t p pushPlace pushOne (pushAt l t table p pushPlace .ledger)
+  pub pushes : Pushes l t table p pushPlace pushOne (pushAt l t table p pushPlace .ledger)
   unfolding pushAt isFree slotOf
   pushes =
       let a = push-after in
@@ -173,6 +177,7 @@ module _ (l : List ℕ) (t : ℕ) (table : List ℕ) (p : PushRequest) (o : Octe
         scope-is = a .scope-is;
         challenge-is = a .challenge-is;
         expiry-is = a .expiry-is;
+        profile = lives-under l t table p f;
       }
 
 -- ---- decide

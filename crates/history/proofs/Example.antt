@@ -23,8 +23,9 @@ use Rattle.sha256.specs.Word.{Σ0, Σ1, σ0, σ1}
 use Rattle.texts.specs.Base64url.{letter, characters, base64url}
 use Rattle.s256.specs.Rule.{matches}
 use Rattle.clients.specs.Fields.{client, entries}
+use Rattle.clients.specs.Lifetime.{lifetimeOf}
 use Rattle.clients.specs.Known.{hasId, hasKey, placeOf, isKnown}
-use Rattle.clients.specs.Sound.{lengthRight, idGiven, idsGiven, keyGiven, keysGiven, sameId, idsDistinct, restZero, restsZero, sound as tableSound}
+use Rattle.clients.specs.Sound.{lengthRight, idGiven, idsGiven, keyGiven, keysGiven, sameId, idsDistinct, lifetimeFits, lifetimesFit, restZero, restsZero, sound as tableSound}
 use Rattle.ledger.specs.Checks.{untimely, taken, isFree, isWith, isReference, isCode, isToken}
 use Rattle.ledger.specs.Fields.{rec, slots, records, stated}
 use Rattle.ledger.specs.Sound.{sized, numbersSound, bytesSound, usedSound, noToken, someToken, recordSound, sameGrant, holds, meets, ownApart, headSound, sound}
@@ -110,7 +111,7 @@ typed-resource t h =
 -- ---- the runs
 
 pub example : Example
-unfolding tabulate numFrom num digits laid put blank zeros same visible urlSafe unreserved redirectFormed challengeFormed verifierFormed redirectPrefix K added compress hashValue joined sha256 pad blocks T1 round rounds next words schedule Σ0 Σ1 σ0 σ1 letter characters base64url matches client entries hasId hasKey placeOf isKnown lengthRight idGiven idsGiven keyGiven keysGiven sameId idsDistinct restZero restsZero tableSound untimely taken isFree isWith isReference isCode isToken rec slots records sized numbersSound bytesSound usedSound noToken someToken stated recordSound sameGrant holds meets ownApart headSound sound sweptRecord sweptTo swept due freedOf freed pushed consented redeemed free first scopeFits emptyLedger pushChecks pushRecord pushAt doPush decideChecks consentRecord consentAt declineAt decideAt doDecide tokenChecks tokenRecord tokenAt doToken resourceChecks look doResource sweepChecks doSweep step listed
+unfolding tabulate numFrom num digits laid put blank zeros same visible urlSafe unreserved redirectFormed challengeFormed verifierFormed redirectPrefix K added compress hashValue joined sha256 pad blocks T1 round rounds next words schedule Σ0 Σ1 σ0 σ1 letter characters base64url matches client entries hasId hasKey placeOf isKnown lifetimeOf lengthRight idGiven idsGiven keyGiven keysGiven sameId idsDistinct lifetimeFits lifetimesFit restZero restsZero tableSound untimely taken isFree isWith isReference isCode isToken rec slots records sized numbersSound bytesSound usedSound noToken someToken stated recordSound sameGrant holds meets ownApart headSound sound sweptRecord sweptTo swept due freedOf freed pushed consented redeemed free first scopeFits emptyLedger pushChecks pushRecord pushAt doPush decideChecks consentRecord consentAt declineAt decideAt doDecide tokenChecks tokenRecord tokenAt doToken resourceChecks look doResource sweepChecks doSweep step listed
 example =
     record {
       opening-typed = (

@@ -15,7 +15,7 @@ use Rattle.octets.proofs.Parts.{zeros-blank}
 use Rattle.octets.proofs.Bytes.{zeros-part, zeros-at}
 use Rattle.octets.proofs.Numbers.{Octets}
 use Rattle.ledger.specs.Fields.{nextNumber, rec, slots, records, state, used, scope, grant, expiry, holder, client, challenge}
-use Rattle.ledger.specs.Limits.{referenceLifetime, codeLifetime}
+use Rattle.ledger.specs.Limits.{codeLifetime}
 use Rattle.ledger.specs.Checks.{expired}
 use Rattle.ledger.specs.Write.{free}
 use Rattle.ledger.specs.Sweep.{sweptRecord}
@@ -28,7 +28,7 @@ use Rattle.desk.specs.Requests.{PushRequest, DecideRequest, TokenRequest}
 use Rattle.desk.specs.Token.{tokenAt}
 use Rattle.history.specs.Runs.{Call, push, decide, token, resource, sweep, Typed, Step, step, started}
 use Rattle.history.specs.Events.{Push, Consent, No, Token, Event, event, eventsOf, listed}
-use Rattle.history.specs.Histories.{concerns, history, unborn, asked, decided, redeemed}
+use Rattle.history.specs.Histories.{concerns, history, DecidedInTime, unborn, asked, decided, redeemed}
 use Rattle.desk.proofs.Turns.{Passed}
 use Rattle.call_laws.proofs.Facts.{push-facts, decide-facts, token-facts, resource-facts, sweep-facts}
 use Rattle.history.proofs.Steps.{checksOf, refusal, acceptance, left, step-cases, decide-branch}
@@ -91,6 +91,7 @@ pushed-as id id′ bits bits′ text text′ h a b c x =
       by = x .by ∙ sym a;
       asks = x .asks ∙ sym b;
       commits = x .commits ∙ sym c;
+      profile = x .profile;
     }
 
 abbrev consented-as : (id id′ : List ℕ) (bits bits′ : ℕ) (text text′ : List ℕ) (who who′ : ℕ) (h : List Call) → id′ ≡ id → bits′ ≡ bits → text′ ≡ text
@@ -106,13 +107,12 @@ consented-as id id′ bits bits′ text text′ who who′ h a b c d x =
       by = x .by ∙ sym a;
       given = x .given ∙ sym d;
       was = pushed-as id id′ bits bits′ text text′ (x .earlier) a b c (x .was);
-      after = x .after;
       soon = x .soon;
     }
 
 -- ---- push
 
-module _ (l : List ℕ) (t : ℕ) (table : List ℕ) (p : PushRequest) (k : ℕ) (r m : List ℕ) (es : List Event) (e : Event) (x : Pushes l t p k r m) (inv : Inv l es)
+module _ (l : List ℕ) (t : ℕ) (table : List ℕ) (p : PushRequest) (k : ℕ) (r m : List ℕ) (es : List Event) (e : Event) (x : Pushes l t table p k r m) (inv : Inv l es)
     (by : e .call ≡ push t table p) (hears : (f : ℕ) → concerns f e ≡ eqb f (grant r)) where
   push-first : history (grant r) (es ++ (e ∷ [])) ≡ push t table p ∷ []
   push-first =
@@ -133,6 +133,7 @@ module _ (l : List ℕ) (t : ℕ) (table : List ℕ) (p : PushRequest) (k : ℕ)
                 by = sym (x .client-is);
                 asks = sym (x .scope-is);
                 commits = sym (x .challenge-is);
+                profile = x .profile;
               };
               until = x .expiry-is;
             };
@@ -164,8 +165,11 @@ module _ (l : List ℕ) (t : ℕ) (d : DecideRequest) (out : List ℕ) (k : ℕ)
         let b = (rw (x .was .only) at (inv .past (grant (rec l k)))) .0 in
         omega arith
 
-    decide-soon : t < decide-old .was .t + referenceLifetime
-    decide-soon = let x = decide-old .until in omega (arith, alive)
+    decide-soon : DecidedInTime (decide-old .was .t) (decide-old .was .table) (decide-old .was .p) t
+    decide-soon =
+        let x = decide-old .until in
+        let n = decide-old .was .profile in
+        record { after = decide-after; alive = omega (arith, alive); profile = omega (arith, alive) }
 
     inv-decide : ((f : ℕ) → concerns f e ≡ eqb f (grant (rec l k))) → Tied (es ++ (e ∷ [])) r → Inv m (es ++ (e ∷ []))
     inv-decide hears new =
@@ -174,7 +178,7 @@ module _ (l : List ℕ) (t : ℕ) (d : DecideRequest) (out : List ℕ) (k : ℕ)
         hears
         (spot-other l t _ k r m w (λ z. omega arith))
         new
-        (rw (by, x .was .only) (decided (x .was .t) (x .was .table) (x .was .p) t d out refl (decide-after, decide-soon)))
+        (rw (by, x .was .only) (decided (x .was .t) (x .was .table) (x .was .p) t d out refl decide-soon))
 
   pub inv-decline : (m : List ℕ) → Declines l t d k m → ((f : ℕ) → concerns f e ≡ eqb f (grant (rec l k))) → Inv m (es ++ (e ∷ []))
   inv-decline m x hears = inv-decide free m (x .wrote) (x .was) (x .alive) hears (tied-free (es ++ (e ∷ [])) free free-state)
@@ -199,7 +203,6 @@ module _ (l : List ℕ) (t : ℕ) (d : DecideRequest) (out : List ℕ) (k : ℕ)
                 by = sym (x .by) ∙ sym (x .client-is);
                 given = sym (x .holder-is);
                 was = pushed-as (client (rec l k)) (client r) (scope (rec l k)) (scope r) (challenge (rec l k)) (challenge r) (history (grant (rec l k)) es) (x .client-is) (x .scope-is) (x .challenge-is) (o .was);
-                after = decide-after r m (x .wrote) (x .was) (x .alive);
                 soon = decide-soon r m (x .wrote) (x .was) (x .alive);
               };
               until = x .expiry-is;
@@ -264,7 +267,7 @@ module _ (l : List ℕ) (t : ℕ) (table : List ℕ) (q : TokenRequest) (k : ℕ
       (λ f. hears f ∙ ap (eqb f) (x .grant-is))
       (spot-other l t _ k r m (x .wrote) (λ v. omega (arith, x .was)))
       token-tied
-      (rw (by, token-calls) (redeemed (z .t) (z .table) (z .p) (y .t) (y .d) (y .out) t table q refl (y .yes) (y .after, y .soon) (token-after, token-soon)))
+      (rw (by, token-calls) (redeemed (z .t) (z .table) (z .p) (y .t) (y .d) (y .out) t table q refl (y .yes) (y .soon) (token-after, token-soon)))
 
 -- ---- sweep
 

@@ -12,15 +12,17 @@ use lib.Seq.{getD-set-same, getD-set-other}
 use borrow.Author.Tests.{eq-eqb, ne-eqb}
 use Rattle.octets.specs.Lists.{some}
 use Rattle.s256.specs.Rule.{matches}
-use Rattle.ledger.specs.Limits.{referenceLifetime, codeLifetime, tokenLifetime}
+use Rattle.ledger.specs.Limits.{codeLifetime, tokenLifetime}
 use Rattle.ledger.specs.Fields.{clock, nextNumber, slots, records, state, scope, grant, expiry, holder, client, challenge, token as tokenField, boundKey}
 use Rattle.ledger.specs.Sound.{sound}
 use Rattle.ledger.proofs.Records.{length-records, records-at}
 use Rattle.ledger_laws.proofs.Says.{of-sound}
+use Rattle.clients.specs.Limits.{profileReference}
+use Rattle.desk.specs.Push.{lifetime}
 use Rattle.desk.specs.Requests.{PushRequest, DecideRequest, TokenRequest}
 use Rattle.history.specs.Runs.{Call, push, decide, token, resource, sweep}
 use Rattle.history.specs.Events.{Event}
-use Rattle.history.specs.Histories.{concerns, history, Life}
+use Rattle.history.specs.Histories.{concerns, history, DecidedInTime, Life}
 use Rattle.history.proofs.Events.{listed-in, listed-out}
 use Rattle.history.proofs.Effects.{Wrote}
 
@@ -62,6 +64,7 @@ pub record PushedBy (id : List ℕ) (bits : ℕ) (text : List ℕ) (h : List Cal
   pub by : p .client ≡ id
   pub asks : p .scope ≡ bits
   pub commits : p .challenge ≡ text
+  pub profile : lifetime table p < profileReference
 
 pub record ConsentedBy (id : List ℕ) (bits : ℕ) (text : List ℕ) (who : ℕ) (h : List Call) : Type 0 where
   pub t : ℕ
@@ -73,8 +76,7 @@ pub record ConsentedBy (id : List ℕ) (bits : ℕ) (text : List ℕ) (who : ℕ
   pub by : d .client ≡ id
   pub given : d .holder ≡ who
   pub was : PushedBy id bits text earlier
-  pub after : was .t ≤ t
-  pub soon : t < was .t + referenceLifetime
+  pub soon : DecidedInTime (was .t) (was .table) (was .p) t
 
 pub record RedeemedBy (id : List ℕ) (bits : ℕ) (text : List ℕ) (who : ℕ) (shown key : List ℕ) (h : List Call) : Type 0 where
   pub t : ℕ
@@ -91,7 +93,7 @@ pub record RedeemedBy (id : List ℕ) (bits : ℕ) (text : List ℕ) (who : ℕ)
 -- with the expiry that the latest call wrote
 pub record TiedPushed (r : List ℕ) (h : List Call) : Type 0 where
   pub was : PushedBy (client r) (scope r) (challenge r) h
-  pub until : expiry r ≡ was .t + referenceLifetime
+  pub until : expiry r ≡ was .t + lifetime (was .table) (was .p)
 
 pub record TiedConsented (r : List ℕ) (h : List Call) : Type 0 where
   pub was : ConsentedBy (client r) (scope r) (challenge r) (holder r) h

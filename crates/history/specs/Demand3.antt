@@ -45,7 +45,8 @@ pub record Demand3 (n : ℕ) : Type 0 where
       ≡ eventsIn n cs ++ (event Reading (readerOf (lastIn n cs) q) (holderOf (reading (lastIn n cs) t q)) (grantOf (reading (lastIn n cs) t q)) (resource t q) ∷ [])
   -- and whatever is called later, that history does not change
   pub stays : (cs : List Call) → AllTyped cs → (r : Granted (eventsIn n cs)) → history (r .grant) (eventsIn n cs) ≡ history (r .grant) (r .before)
-  -- the consent comes under 599 seconds after its push, the token under 60 after its consent: of every grant number, read or not
+  -- the consent comes under the lifetime of the client in the push's own table after its push, and under the profile's 600 seconds for every table, the token under 60 after its
+  -- consent: of every grant number, read or not
   pub in-time : (cs : List Call) → AllTyped cs → (g : ℕ) → Life (history g (eventsIn n cs))
   -- the grant numbers of accepted pushes are 1, 2, 3 and so on, in order: distinct, and rising by one
   pub numbers : (cs : List Call) → AllTyped cs → numbersOf (eventsIn n cs) ≡ tabulate (λ (i : ℕ). i + 1) (length (numbersOf (eventsIn n cs)))

@@ -7,8 +7,10 @@ use lib.Dec.{eqb}
 use Rattle.octets.specs.Lists.{some}
 use Rattle.octets.specs.Parts.{same}
 use Rattle.s256.specs.Rule.{matches}
-use Rattle.ledger.specs.Limits.{referenceLifetime, codeLifetime, tokenLifetime}
+use Rattle.ledger.specs.Limits.{codeLifetime, tokenLifetime}
+use Rattle.clients.specs.Limits.{profileReference}
 use Rattle.desk.specs.Checks.{within}
+use Rattle.desk.specs.Push.{lifetime}
 use Rattle.desk.specs.Requests.{PushRequest, DecideRequest, TokenRequest, ResourceRequest}
 use Rattle.history.specs.Runs.{Call, push, decide, token, resource, sweep}
 use Rattle.history.specs.Events.{EventKind, Push, Consent, No, Token, Drop, SecondUse, Reading, Event, event, is, listed}
@@ -84,13 +86,19 @@ pub record Chain (t : ℕ) (q : ResourceRequest) (h : List Call) : Type 0 where
   -- "and a verifier matching the pushed challenge"
   pub verified : matches (redeemed .verifier) (pushed .challenge) ≡ true
 
+-- a decision at time b on what p pushed at time a: not before it, and under the lifetime of the client in the push's own table x; for the profile, under 600 seconds for every table
+pub record DecidedInTime (a : ℕ) (x : List ℕ) (p : PushRequest) (b : ℕ) : Type 0 where
+  pub after : a ≤ b
+  pub alive : b < a + lifetime x p
+  pub profile : b < a + profileReference
+
 -- what the history of a grant number can be at any moment: nothing; a push; a push and a decision, in time; a push, a consent and a token, in time
 pub data Life (h : List Call) : Type 0 where
   unborn : h ≡ [] → Life h
   asked : (a : ℕ) (x : List ℕ) (p : PushRequest) → h ≡ push a x p ∷ [] → Life h
   decided : (a : ℕ) (x : List ℕ) (p : PushRequest) (b : ℕ) (d : DecideRequest) (out : List ℕ)
       → h ≡ push a x p ∷ decide b d out ∷ []
-      → (a ≤ b) × (b < a + referenceLifetime) → Life h
+      → DecidedInTime a x p b → Life h
   redeemed : (a : ℕ) (x : List ℕ) (p : PushRequest) (b : ℕ) (d : DecideRequest) (out : List ℕ) (c : ℕ) (y : List ℕ) (q : TokenRequest)
       → h ≡ push a x p ∷ decide b d out ∷ token c y q ∷ []
-      → d .yes ≡ true → (a ≤ b) × (b < a + referenceLifetime) → (b ≤ c) × (c < b + codeLifetime) → Life h
+      → d .yes ≡ true → DecidedInTime a x p b → (b ≤ c) × (c < b + codeLifetime) → Life h

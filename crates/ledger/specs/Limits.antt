@@ -1,20 +1,14 @@
 -- Lifetimes and limits, each under the kind it belongs to. They stand here and in no other definition.
 use Prim.Native.Nat.{ℕ, _-_, _^_}
 
--- "Lifetimes (599, 60, 300)"
-abbrev pub referenceLifetime : ℕ
-referenceLifetime = 599
-
+-- "Lifetimes (.., 60, 300)"; that of a reference is the client's
 abbrev pub codeLifetime : ℕ
 codeLifetime = 60
 
 abbrev pub tokenLifetime : ℕ
 tokenLifetime = 300
 
--- "The profile's own limits are: reference under 600 seconds, code at most 60."
-abbrev pub profileReference : ℕ
-profileReference = 600
-
+-- "The profile's own limits are: .. code at most 60."
 abbrev pub profileCode : ℕ
 profileCode = 60
 

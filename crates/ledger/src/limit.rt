@@ -1,18 +1,6 @@
 // Lifetimes and limits, each a constant of the kind it belongs to; a function beside it ties it to its definition.
 ghost use mathlib.Core.Path.{_≡_};
-ghost use Rattle.ledger.specs.Limits.{referenceLifetime, codeLifetime, tokenLifetime, clockLimit, expiryLimit, headSize, recordSize, recordsLeast, recordsMost, lastNumber};
-
-pub struct Reference {}
-
-impl Reference {
-    pub const LIFETIME: u64 = 599;
-
-    pub fn lifetime() -> u64
-        ensures { λ r. ⌜ r ≡ referenceLifetime ⌝ }
-    {
-        Reference::LIFETIME
-    }
-}
+ghost use Rattle.ledger.specs.Limits.{codeLifetime, tokenLifetime, clockLimit, expiryLimit, headSize, recordSize, recordsLeast, recordsMost, lastNumber};
 
 pub struct Code {}
 

@@ -16,7 +16,7 @@ fn start(line: &[u8], l: &mut [u8]) {
 
 // how many clients the table has, client, key, scope, fresh value; challenge, redirect
 fn push(line: &[u8], l: &mut [u8], time: u64, w: [u8; 6]) {
-    let t = table::three();
+    let t = table::five();
     let a = push::push(
         l,
         time,
@@ -59,7 +59,7 @@ fn decide(line: &[u8], l: &mut [u8], time: u64, w: [u8; 6]) {
 
 // how many clients the table has, client, key, presented key, code, fresh value; verifier
 fn token(line: &[u8], l: &mut [u8], time: u64, w: [u8; 6]) {
-    let t = table::three();
+    let t = table::five();
     let a = token::token(
         l,
         time,

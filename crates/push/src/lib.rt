@@ -7,8 +7,9 @@ ghost use Rattle.ledger.specs.Fields.{rec, slots};
 ghost use Rattle.ledger.specs.Write.{pushed};
 ghost use Rattle.desk.specs.Answers.{answerOf};
 ghost use Rattle.desk.specs.Outcome.{left};
-ghost use Rattle.desk.specs.Push.{lifetime, entered, push};
+ghost use Rattle.desk.specs.Push.{entered, push};
 use clients::known::Known;
+use clients::lifetime::lifetime_of;
 use clients::record::client_at;
 use clients::record::permitted;
 use clients::table::Table;
@@ -23,17 +24,9 @@ use ledger::clock::set_clock;
 use ledger::clock::set_next;
 use ledger::find::Found;
 use ledger::limit::Ledger;
-use ledger::limit::Reference;
 use ledger::pool::Value;
 use ledger::record::address;
 use ledger::sound::Soundness;
-
-// The seconds that a reference lives, by the client's record: the same for all.
-fn lifetime(client: &[u8]) -> u64
-    ensures { λ r. ⌜ r ≡ lifetime (now (client .entry)) ⌝ }
-{
-    Reference::LIFETIME
-}
 
 // Writes a push into its record, and answers what the record then has.
 fn push_record(
@@ -131,7 +124,7 @@ pub fn push(
         time,
         bits,
         number,
-        time + lifetime(client_at(table, who)),
+        time + lifetime_of(client_at(table, who)),
         client,
         challenge,
         fresh,

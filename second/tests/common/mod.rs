@@ -115,8 +115,13 @@ impl Default for Resource {
     }
 }
 
+/// The record of a harbour kiosk: it says the longest lifetime.
 pub fn client(id: [u8; 16], key: [u8; 32], permitted: u32) -> Vec<u8> {
-    [&id[..], &key, &permitted.to_be_bytes(), &[0; 12]].concat()
+    client_saying(id, key, permitted, 599)
+}
+
+pub fn client_saying(id: [u8; 16], key: [u8; 32], permitted: u32, lifetime: u16) -> Vec<u8> {
+    [&id[..], &key, &permitted.to_be_bytes(), &lifetime.to_be_bytes(), &[0; 10]].concat()
 }
 
 impl Desk {

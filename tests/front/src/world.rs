@@ -281,6 +281,8 @@ fn client(chance: &mut Chance) -> [u8; CLIENT_BYTES] {
     record[..16].copy_from_slice(&chance.array::<16>());
     record[16..48].copy_from_slice(&chance.array::<32>());
     record[48..52].copy_from_slice(&chance.one_of(&[5, 1, u32::MAX, 0]).to_be_bytes());
+    let some = 1 + chance.below(usize::from(MAX_REFERENCE_LIFETIME)) as u16;
+    record[52..54].copy_from_slice(&chance.one_of(&[0, 0, 1, some, MAX_REFERENCE_LIFETIME]).to_be_bytes());
     record
 }
 
@@ -314,7 +316,11 @@ fn spoil_table(table: &mut Vec<u8>, chance: &mut Chance) {
         2 => table[at + chance.below(CLIENT_BYTES)] ^= 1 << chance.below(8),
         3 => table[at..at + 16].fill(0),
         4 => table[at + 16..at + 48].fill(0),
-        5 => table[at + 52 + chance.below(12)] = chance.byte(),
+        5 if chance.once_in(2) => table[at + 54 + chance.below(10)] = chance.byte(),
+        5 => {
+            let lifetimes = [MAX_REFERENCE_LIFETIME, MAX_REFERENCE_LIFETIME + 1, 0x5702, u16::MAX, chance.number() as u16];
+            table[at + 52..at + 54].copy_from_slice(&chance.one_of(&lifetimes).to_be_bytes());
+        }
         6 => table[at + 48..at + 52].fill(0),
         7 => {
             let id: [u8; 16] = table[at..at + 16].try_into().unwrap();

@@ -25,8 +25,9 @@ pub const PUSH: perdigolh_keeper::Push<'static> = perdigolh_keeper::Push {
     redirect: b"https://buyer.example/back",
 };
 
+/// The buyer's references live 599 seconds.
 pub fn table() -> Vec<u8> {
-    client_record(BUYER, KEY, 5).to_vec()
+    client_record(BUYER, KEY, 5, 599).to_vec()
 }
 
 pub fn yes(reference: Reference) -> perdigolh_keeper::Decide {

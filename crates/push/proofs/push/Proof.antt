@@ -1,13 +1,16 @@
-use Prim.Native.Nat.{ℕ, _+_, _<_}
+use Prim.Native.Nat.{ℕ, _+_, _<_, _≤_}
 use Rattle.clients.specs.Fields.{permitted, client}
+use Rattle.clients.proofs.Profile.{known-most}
 use Rattle.clients.specs.Known.{placeOf}
+use Rattle.clients.specs.Lifetime.{lifetimeOf}
+use Rattle.clients.specs.Limits.{lifetimeMost}
 use Rattle.desk.proofs.Tests.{told, table-told, known-told, known-place, texts-told, scope-told, scope-bits}
 use Rattle.desk.proofs.Turns.{nth, Come, passes, stops, all-pass}
 use Rattle.desk.proofs.Written.{push-at as written-at, below-last, found-inside, timely-lt, refuses}
 use Rattle.desk.specs.Answers.{refused}
 use Rattle.desk.specs.Checks.{Check, Verdict}
 use Rattle.desk.specs.Outcome.{Outcome, left, concludes}
-use Rattle.desk.specs.Push.{clientRecord, grantedBits, freePlace, pushChecks, pushAt, pushLeaves, push}
+use Rattle.desk.specs.Push.{clientRecord, grantedBits, lifetime, freePlace, pushChecks, pushAt, pushLeaves, push}
 use Rattle.desk.specs.Requests.{PushRequest}
 use Rattle.desk.specs.Tests.{failsWhen, scopeDecision}
 use Rattle.desk.specs.declared.answer.Answer.{Answer}
@@ -151,6 +154,18 @@ t9 c = passes 8 (checks (s9 c)) (t8 (c .before .before .before .before .before .
 abbrev time-place : tie.After-enum-told14 → tie.After-enum-told3
 time-place c = c .before .before .before .before .before .before .before .before .before .before .before .before .before .before .before .before .before .before .before .before .before .before .before .before .before .before .before .before .before
 
+-- back to where the client is found, whose record the lifetime is read off
+abbrev who-place : tie.After-enum-told14 → tie.After-who
+who-place c = c .before .before .before .before .before .before .before .before .before .before .before .before .before .before .before .before .before .before .before .before .before .before .before
+
+lives : (c : tie.After-who) → lifetimeOf (client (table (s4 c)) (c .who .given .0 .0)) ≤ lifetimeMost
+lives c =
+    known-most _ _ _ _ (table-told _ _ (sym (c .before .before .before .before .before .check3 .ensures) ∙ c .before .before .before .enum-told5 .given .1))
+    (sym (c .before .before .find .ensures) ∙ c .who .given .1)
+
+lasts : (c : tie.After-who) {n : ℕ} {r : List ℕ} → n ≡ lifetimeOf r → r ≡ client (table (s4 c)) (c .who .given .0 .0) → n ≡ lifetime (table (s4 c)) (request (s4 c))
+lasts c e f = e ∙ ap lifetimeOf (f ∙ ap (client (table (s4 c))) (sym (who-at c)))
+
 -- ---- the returns
 
 returns : tie.Need-returns
@@ -210,7 +225,8 @@ returns-9 c =
 add-push-at : tie.Need-add-push-at
 add-push-at c =
     let h = timely-lt _ _ (in-time (time-place (c .before .before .before))) in
-    let e = c .lifetime .ensures in
+    let m = lives (who-place (c .before .before .before)) in
+    let e = c .lifetime-of .ensures ∙ ap lifetimeOf (c .before .client-at .ensures) in
     omega arith
 
 push-at-requires : tie.Need-push-at-requires
@@ -225,7 +241,7 @@ returns-10 c =
     let s = s9 b in
     c .before .before .push-at .ensures
     ∙ written-at (l s) (s .args .time) (table s) (request s) _ _ _ _ (free-at k) (bits-are (k .before .before .before .before .before .before .before .before .before))
-    (b .before .before .before .next-number .ensures) (ap (λ (n : ℕ). s .args .time + n) (c .before .before .before .lifetime .ensures))
+    (b .before .before .before .next-number .ensures) (ap (λ (n : ℕ). s .args .time + n) (lasts (who-place b) (c .before .before .before .lifetime-of .ensures) (c .before .before .before .before .client-at .ensures)))
     ∙ sym (acceptance s (t9 b))
 
 pub push-spec : {M : Type 1} → statement M

@@ -14,7 +14,7 @@ fn client(number: u64) -> ClientId {
 }
 
 pub fn table() -> Vec<u8> {
-    (1..=CLIENTS).flat_map(|number| client_record(client(number), KEY, 5)).collect()
+    (1..=CLIENTS).flat_map(|number| client_record(client(number), KEY, 5, 599)).collect()
 }
 
 pub fn push(number: u64) -> keeper::Push<'static> {
