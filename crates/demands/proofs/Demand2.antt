@@ -4,11 +4,12 @@ use mathlib.Core.Logic.{_↔_}
 use mathlib.Core.List.{List}
 use Prim.Native.Nat.{ℕ}
 use Rattle.desk.specs.Answers.{done}
+use Rattle.desk.specs.declared.answer.Refusal.the-variants.{CodeRedeemed}
 use Rattle.call_laws.proofs.Accepting.{start-accepted, push-accepted, decide-accepted, token-accepted, resource-accepted, sweep-accepted}
 use Rattle.demands.specs.Calls.{Call, start, push, decide, token, resource, sweep, leaves}
 use Rattle.demands.specs.Demand2.{Allowed, After, Demand2}
 use Rattle.demands.proofs.Rows.{turns}
-use Rattle.demands.proofs.Afterwards.{after-start, after-push, after-decide, after-token, after-resource, after-sweep}
+use Rattle.demands.proofs.Afterwards.{after-start, after-push, after-decide, after-token, after-second-use, after-resource, after-sweep}
 
 allowed : (l table : List ℕ) (c : Call) → (leaves l table c .number ≡ done) ↔ Allowed l table c
 allowed l table start = start-accepted l
@@ -27,4 +28,10 @@ after l table (resource t q) = after-resource l t q
 after l table (sweep t) = after-sweep l t
 
 pub demand2 : Demand2
-demand2 = record { accepted = allowed; refused = turns; afterwards = after }
+demand2 =
+    record {
+      accepted = allowed;
+      refused = turns;
+      afterwards = after;
+      second-use = λ l table t q u. after-second-use l t table q (turns l table (token t q) CodeRedeemed .1 u);
+    }
