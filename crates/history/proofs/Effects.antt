@@ -265,6 +265,7 @@ pub record Redeems (l : List ℕ) (t : ℕ) (q : TokenRequest) (k : ℕ) (s m : 
   pub scope-is : scope s ≡ scope (rec l k)
   pub challenge-is : challenge s ≡ challenge (rec l k)
   pub holder-is : holder s ≡ holder (rec l k)
+  pub code-is : value s ≡ q .code
   pub token-is : token s ≡ q .fresh
   pub key-is : boundKey s ≡ q .presented
   pub expiry-is : expiry s ≡ t + tokenLifetime
@@ -321,6 +322,7 @@ module _ (l : List ℕ) (t : ℕ) (table : List ℕ) (q : TokenRequest) (y : Typ
         scope-is = a .scope-is;
         challenge-is = a .challenge-is;
         holder-is = a .holder-is;
+        code-is = a .value-is ∙ code-says (q .code) (q .client) (rec l tokenAtPlace) .0 (token-found .passes) .1 .0;
         token-is = a .token-is;
         key-is = a .key-is;
         expiry-is = a .expiry-is;

@@ -8,6 +8,7 @@ pub mod Numbers
 pub mod Links
 pub mod Invariant
 pub mod Readings
+pub mod SecondUses
 pub mod Demand3
 pub mod Begins
 pub mod Example

@@ -79,6 +79,7 @@ module _ (l : List ℕ) (es : List Event) (t : ℕ) (q : ResourceRequest) (k : �
 pub record ReadHere (l : List ℕ) (t : ℕ) (q : ResourceRequest) (g : ℕ) (before fs : List Event) : Type 0 where
   pub read : Reads l t q (tokenPlace l q)
   pub number : g ≡ grant (rec l (tokenPlace l q))
+  pub first : before ≡ []
   pub before-aside : (f : ℕ) → some (concerns f) before ≡ false
   pub aside : (f : ℕ) → some (concerns f) fs ≡ false
 
@@ -99,7 +100,7 @@ no-decision false = refl
 over : (l : List ℕ) (t u : ℕ) (q w : ResourceRequest) (g : ℕ) → t ≡ u → q ≡ w → grant (rec l (tokenPlace l q)) ≡ g → Reads l t q (tokenPlace l q)
     → (fs : List Event) → ((f : ℕ) → some (concerns f) fs ≡ false) → ReadHere l u w g [] fs
 over l t u q w g e f h x fs a =
-    rw (← e, ← f) (record { read = x; number = sym h; before-aside = λ i. refl; aside = a })
+    rw (← e, ← f) (record { read = x; number = sym h; first = refl; before-aside = λ i. refl; aside = a })
 
 read-done : (l : List ℕ) (c : Call) → Passed (checksOf l c) → (before after : List Event) (id : List ℕ) (who g t : ℕ) (q : ResourceRequest)
     → eventsOf (acceptance l c) ≡ before ++ (event Reading id who g (resource t q) ∷ after)
