@@ -110,9 +110,10 @@ static void take_started(store *s) {
     }
 }
 
-/* Stores what an accepted call has left, and lets the lock go. A refusal has changed nothing, so there is nothing to store. */
+/* Stores what a call has left, and lets the lock go. A refusal has changed nothing, so there is nothing to store: all but 15, which
+ * has freed a record. */
 static void let_go(store *s, uint8_t number) {
-    if (number == PERDIGOLH_DONE) {
+    if (number == PERDIGOLH_DONE || number == PERDIGOLH_CODE_REDEEMED) {
         keep(s);
     }
     close(s->locked);

@@ -1,4 +1,4 @@
-//! The six calls. Each checks for itself all that it reads, in document 01's order; a refusal changes nothing.
+//! The six calls. Each checks for itself all that it reads, in document 01's order; a refusal changes nothing, but 15 at token.
 
 use crate::base64url::s256;
 use crate::form;
@@ -210,8 +210,13 @@ pub fn token(
                 && record[CLIENT] == *client
         });
         let place = place.ok_or(Refusal::CodeUnknown)?;
+        if ledger::record(ledger, place)[STATE] == state::REDEEMED {
+            // Document 02, Q-3: a code shown twice ends its token.
+            ledger::record_mut(ledger, place).fill(0);
+            set_clock(ledger, now);
+            return Err(Refusal::CodeRedeemed);
+        }
         let record = ledger::record(ledger, place);
-        ensure(record[STATE] != state::REDEEMED, Refusal::CodeRedeemed)?;
         check_alive(ledger, place, now)?;
         ensure(record[CHALLENGE] == s256(verifier), Refusal::VerifierWrong)?;
         check_fresh(ledger, fresh)?;
