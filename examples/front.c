@@ -1,7 +1,7 @@
 /*
- * One grant from C, with the ledger in a file: front LEDGER-FILE
+ * One grant from C, with the ledger in a file: front LEDGER-FILE [twice]
  *
- * Start, table, push, decide, token, a reading, and the code a second time. What a web front would get from TLS, from the login and
+ * Start, table, push, decide, token and a reading; with `twice` the code a second time, which ends the token, and a reading. What a web front would get from TLS, from the login and
  * from its random source is made up here, and says so. docs/FRONT.md has the rules that this keeps to.
  */
 #define _POSIX_C_SOURCE 200809L
@@ -206,8 +206,9 @@ static void resource(store *s, const uint8_t token[32]) {
 int main(int count, char **words) {
     static store s;
     uint8_t table[PERDIGOLH_TABLE_BYTES(1)], reference[32], code[32], token[32], another[32];
-    if (count != 2 || strlen(words[1]) >= NAME_MOST) {
-        fprintf(stderr, "front LEDGER-FILE\n");
+    int twice = count == 3 && strcmp(words[2], "twice") == 0;
+    if ((count != 2 && !twice) || strlen(words[1]) >= NAME_MOST) {
+        fprintf(stderr, "front LEDGER-FILE [twice]\n");
         return 2;
     }
     snprintf(s.path, sizeof s.path, "%s", words[1]);
@@ -226,7 +227,10 @@ int main(int count, char **words) {
     draw(token);
     redeem(&s, table, code, token);
     resource(&s, token);
-    draw(another);
-    redeem(&s, table, code, another); /* the code a second time: 15 */
+    if (twice) {
+        draw(another);
+        redeem(&s, table, code, another); /* 15 */
+        resource(&s, token);              /* 17 */
+    }
     return 0;
 }

@@ -3,7 +3,7 @@
 mod common;
 use common::*;
 use second::base64url::s256;
-use second::desk;
+use second::desk::{self, Answer, Swept};
 use second::sha256;
 
 #[test]
@@ -152,11 +152,14 @@ fn the_record_stays_at_redemption() {
 #[test]
 fn a_code_shown_twice_ends_its_token() {
     let empty = Desk::started(1).ledger;
-    let again = Token { now: 1200, verifier: vec![b'x'; 43], fresh: ZERO, ..Token::default() };
+    let again = Token { now: 1200, verifier: vec![b'x'; 43], fresh: [0; 32], ..Token::default() };
     for now in [1059, 1200, 9000] {
         let mut desk = Desk::redeemed();
         let next = desk.ledger[8..16].to_vec();
-        assert_eq!(desk.token(&Token { now, ..again.clone() }), Answer { number: 15, ..Answer::default() });
+        assert_eq!(
+            desk.token(&Token { now, ..again.clone() }),
+            Answer { number: 15, ..Answer::default() }
+        );
         assert_eq!(desk.clock(), now);
         assert_eq!(desk.ledger[8..16], next);
         assert_eq!(desk.ledger[16..288], empty[16..288], "the record is free");

@@ -10,13 +10,11 @@ use borrow.Author.Tests.{eqb-true}
 use Rattle.octets.specs.Lists.{bit, some, count}
 use Rattle.ledger.specs.Fields.{rec, records, state, inState, grant}
 use Rattle.ledger.specs.declared.state.State.the-variants.{Free, Consented}
-use Rattle.desk.specs.Answers.{numberOf}
 use Rattle.desk.specs.Requests.{DecideRequest}
 use Rattle.desk.specs.Decide.{referencePlace, consentRecord, consentAt, declineAt}
-use Rattle.desk.specs.Token.{codePlace}
 use Rattle.desk.specs.declared.answer.Refusal.{Refusal}
 use Rattle.history.specs.Runs.{Call, push, decide, token, resource, sweep}
-use Rattle.history.specs.Events.{Consent, No, Drop, SecondUse, Event, event, ofRecord, provided, dropped, eventsOf, listed}
+use Rattle.history.specs.Events.{Consent, No, Drop, Event, event, ofRecord, provided, dropped, eventsOf, listed}
 use Rattle.history.proofs.Steps.{secondUse, refusal, refused-not, consenting, declining, deciding}
 
 -- ---- lists

@@ -4,13 +4,12 @@ use native.Mathlib.Omega.{arith}
 use native.Mathlib.Nat.{le-refl}
 use mathlib.Core.Path.{_≡_, refl, sym, ap, _∙_}
 use mathlib.Core.Logic.{_≢_, inl, ⊎-elim}
-use mathlib.Core.Bool.{Bool, true, false, cond, _&&_, _||_}
+use mathlib.Core.Bool.{Bool, true, false, cond, _&&_}
 use mathlib.Core.List.{List, [], _∷_, _++_, map, append-nil, append-assoc}
-use lib.Dec.{eqb}
 use lib.ListN.{length, length-append, getD}
 use borrow.Author.Tests.{eqb-false, eq-eqb}
 use Rattle.octets.specs.Lists.{some}
-use Rattle.octets.specs.Parts.{zeros, same}
+use Rattle.octets.specs.Parts.{same}
 use Rattle.octets.proofs.Tests.{both, false-of}
 use Rattle.octets.proofs.Parts.{same-eq}
 use Rattle.octets.proofs.Numbers.{Octets}
@@ -18,18 +17,18 @@ use Rattle.ledger.specs.Fields.{nextNumber, rec, records, state, used, grant, v
 use Rattle.ledger.specs.Checks.{expired}
 use Rattle.ledger.specs.Write.{free}
 use Rattle.ledger.specs.Sweep.{sweptRecord}
-use Rattle.ledger.proofs.Records.{length-records, records-at}
+use Rattle.ledger.proofs.Records.{records-at}
 use Rattle.ledger_laws.proofs.Says.{neither, of-sound}
 use Rattle.ledger_laws.proofs.Replaced.{free-state}
 use Rattle.desk.specs.Answers.{numberOf}
 use Rattle.desk.specs.Requests.{PushRequest, DecideRequest, TokenRequest, ResourceRequest}
 use Rattle.desk.specs.Outcome.{Outcome}
 use Rattle.desk.specs.Push.{pushAt}
-use Rattle.desk.specs.Token.{codePlace, tokenChecks, tokenAt, ended}
+use Rattle.desk.specs.Token.{codePlace, tokenAt, ended}
 use Rattle.desk.specs.Resource.{tokenPlace}
 use Rattle.desk.specs.declared.answer.Answer.{Answer}
 use Rattle.desk.specs.declared.answer.Refusal.the-variants.{CodeRedeemed}
-use Rattle.desk.proofs.Turns.{Passed, Turn, number-refused}
+use Rattle.desk.proofs.Turns.{Passed, number-refused}
 use Rattle.call_laws.proofs.Rows.{token-outcomes}
 use Rattle.call_laws.proofs.Facts.{push-facts, decide-facts, token-facts, second-use-facts, resource-facts, sweep-facts}
 use Rattle.history.specs.Runs.{Call, push, decide, token, resource, sweep, Typed, Step, step, numberIn}
@@ -37,7 +36,7 @@ use Rattle.history.specs.Events.{Token, SecondUse, Reading, Event, event
 use Rattle.history.specs.Histories.{concerns, history, Granted, Chain, shows, repeats, Unrepeated}
 use Rattle.history.proofs.Steps.{checksOf, refusal, ending, acceptance, left, step-cases, decide-branch}
 use Rattle.history.proofs.Events.{some-append, InFirst, InSecond, parted, listed-append, dropped-none, refused-none, consent-events, decline-events}
-use Rattle.history.proofs.Effects.{Wrote, pushes, consents, declines, Redeems, redeems, Ends, ends, ticks, sweeps, getD-map, swept-none}
+use Rattle.history.proofs.Effects.{Wrote, pushes, consents, declines, redeems, Ends, ends, ticks, sweeps, getD-map, swept-none}
 use Rattle.history.proofs.Runs.{Good}
 use Rattle.history.proofs.Links.{used-inside, grant-below, grants-apart, written}
 use Rattle.history.proofs.Readings.{ReadHere, read-here}
