@@ -24,7 +24,8 @@ use Rattle.history.proofs.Balance.{Balanced, balanced-step}
 use Rattle.history.proofs.Numbers.{Numbered, numbered-step, numbered-start}
 use Rattle.history.proofs.Invariant.{started-at, inv-start}
 use Rattle.history.proofs.Readings.{Kept, kept-step, kept-start, odd, odd-step, token-before, told, value-closed}
-use Rattle.history.proofs.SecondUses.{Single, single-step, single-start, Unread, unread-step, ended-unread}
+use Rattle.history.proofs.SecondUses.{Single, single-step, single-start}
+use Rattle.history.proofs.Ended.{Unread, unread-step, ended-unread}
 
 -- ---- nothing waits at the start
 

@@ -9,6 +9,7 @@ pub mod Links
 pub mod Invariant
 pub mod Readings
 pub mod SecondUses
+pub mod Ended
 pub mod Demand3
 pub mod Begins
 pub mod Example
