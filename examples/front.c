@@ -1,7 +1,8 @@
 /*
- * One grant from C, with the ledger in a file: front LEDGER-FILE
+ * One grant from C, with the ledger in a file: front LEDGER-FILE [twice]
  *
- * Start, table, push, what she sees, decide, token, a reading, what a figure server is told, and the code a second time. What a web front would get from TLS, from the login and
+ * Start, table, push, what she sees, decide, token, a reading, what a figure server is told; with `twice` the code a second time, which ends the token, and a
+ * reading. What a web front would get from TLS, from the login and
  * from its random source is made up here, and says so. docs/FRONT.md has the rules that this keeps to.
  */
 #define _POSIX_C_SOURCE 200809L
@@ -110,9 +111,10 @@ static void take_started(store *s) {
     }
 }
 
-/* Stores what an accepted call has left, and lets the lock go. A refusal has changed nothing, so there is nothing to store. */
+/* Stores what a call has left, and lets the lock go. A refusal has changed nothing, so there is nothing to store: all but 15, which
+ * has freed a record. */
 static void let_go(store *s, uint8_t number) {
-    if (number == PERDIGOLH_DONE) {
+    if (number == PERDIGOLH_DONE || number == PERDIGOLH_CODE_REDEEMED) {
         keep(s);
     }
     close(s->locked);
@@ -226,8 +228,9 @@ static void introspect(store *s, const uint8_t token[32]) {
 int main(int count, char **words) {
     static store s;
     uint8_t table[PERDIGOLH_TABLE_BYTES(1)], reference[32], code[32], token[32], another[32];
-    if (count != 2 || strlen(words[1]) >= NAME_MOST) {
-        fprintf(stderr, "front LEDGER-FILE\n");
+    int twice = count == 3 && strcmp(words[2], "twice") == 0;
+    if ((count != 2 && !twice) || strlen(words[1]) >= NAME_MOST) {
+        fprintf(stderr, "front LEDGER-FILE [twice]\n");
         return 2;
     }
     snprintf(s.path, sizeof s.path, "%s", words[1]);
@@ -248,7 +251,10 @@ int main(int count, char **words) {
     redeem(&s, table, code, token);
     resource(&s, token);
     introspect(&s, token);
-    draw(another);
-    redeem(&s, table, code, another); /* the code a second time: 15 */
+    if (twice) {
+        draw(another);
+        redeem(&s, table, code, another); /* 15 */
+        resource(&s, token);              /* 17 */
+    }
     return 0;
 }

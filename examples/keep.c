@@ -174,7 +174,7 @@ static enum outcome keep(const struct place *at, call_on *call, void *request) {
     if (outcome == MADE) {
         copy = stored;
         call(copy.bytes + HEAD, copy.length - HEAD - SUM, (uint64_t)time(NULL), request);
-        if (memcmp(copy.bytes, stored.bytes, copy.length)) { /* by the bytes, never by the number */
+        if (memcmp(copy.bytes, stored.bytes, copy.length)) { /* by the bytes, never by the number: a 15 at token has changed them */
             put(copy.bytes + STEP, step_of(&copy) + 1);
             outcome = store(at, &copy, lock);
         }

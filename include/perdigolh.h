@@ -10,7 +10,9 @@
  * What holds for every function:
  * - It ends, on every input of every length, with a number of the table below. It checks for itself the ledger, the table and the
  *   request that it reads, in the order given, and the first check that fails gives the number.
- * - A refusal (any number but 0) has zeros beside its number and changes no byte, the ledger's clock included.
+ * - A refusal (any number but 0) has zeros beside its number and changes no byte, the ledger's clock included. One alone changes
+ *   the ledger: 15 at token frees the record of the code that came twice and sets the clock. It is stored before it is given out,
+ *   as an accepted call is: whether there is something to store is told by the ledger's bytes, and not by the number.
  * - It allocates nothing, keeps no pointer, has no state of its own and calls nothing outside the archive but the C library's
  *   memory functions.
  * - No pointer is NULL, not even with length 0. Lengths are in bytes. A pointer to an array, `client[16]`, has that many bytes.
@@ -233,7 +235,8 @@ perdigolh_decided perdigolh_decide(uint8_t *ledger, size_t ledger_length, uint64
  * Lent:    the ledger; the time; the client table; the client id; the thumbprint of the key by which it authenticated; the
  *          thumbprint of the key that it presents, which the token is bound to; the code; the verifier; a fresh value.
  * Changed: the record of the code, whose fresh value is the token from then on; and the clock. The code stays in the record, so
- *          that a second use is known as one.
+ *          that a second use is known as one: it is refused by 15, whatever its verifier and fresh value, and ends the token,
+ *          expired or not. The record becomes free and the clock becomes the time; a third use is refused by 14.
  * Checks, in order: 1, 2, 3, 4, 13, 5, then 14 or 15, 11, 16, 7.
  * Checked by the front before: that the program holds the private keys of `key` and of `presented`; `fresh` is 32 bytes of its
  *          random source, drawn for this call.

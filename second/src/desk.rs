@@ -1,5 +1,5 @@
 //! The six calls of document 01, and two that only read: introspect (document 02, Q-1) and pending.
-//! Each checks for itself all that it reads, in its list's order; a refusal changes nothing.
+//! Each checks for itself all that it reads, in its list's order; a refusal changes nothing, but 15 at token (document 02, Q-3).
 
 use crate::base64url::s256;
 use crate::description;
@@ -220,8 +220,13 @@ pub fn token(
                 && record[CLIENT] == *client
         });
         let place = place.ok_or(Refusal::CodeUnknown)?;
+        if ledger::record(ledger, place)[STATE] == state::REDEEMED {
+            // Document 02, Q-3: a code shown twice ends its token.
+            ledger::record_mut(ledger, place).fill(0);
+            set_clock(ledger, now);
+            return Err(Refusal::CodeRedeemed);
+        }
         let record = ledger::record(ledger, place);
-        ensure(record[STATE] != state::REDEEMED, Refusal::CodeRedeemed)?;
         check_alive(ledger, place, now)?;
         ensure(record[CHALLENGE] == s256(verifier), Refusal::VerifierWrong)?;
         check_fresh(ledger, fresh)?;

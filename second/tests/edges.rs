@@ -3,7 +3,7 @@
 mod common;
 use common::*;
 use second::base64url::s256;
-use second::desk;
+use second::desk::{self, Answer, Swept};
 use second::sha256;
 
 #[test]
@@ -160,11 +160,36 @@ fn another_clients_code_is_14_redeemed_or_not() {
 fn the_record_stays_at_redemption() {
     let mut desk = Desk::redeemed();
     let again = Token { fresh: UNUSED, ..Token::default() };
-    assert_eq!(desk.token(&again).number, 15);
-    assert_eq!(desk.token(&Token { now: 9000, ..again.clone() }).number, 15, "expired or not");
     assert_eq!(desk.resource(&Resource::default()).number, 0);
     assert_eq!(desk.sweep(9000).redeemed, 1);
-    assert_eq!(desk.token(&Token { now: 9000, ..again }).number, 14);
+    assert_eq!(desk.token(&Token { now: 9000, ..again.clone() }).number, 14);
+    assert_eq!(Desk::redeemed().token(&again).number, 15);
+    assert_eq!(Desk::redeemed().token(&Token { now: 9000, ..again }).number, 15, "expired or not");
+}
+
+/// Document 02, Q-3, whatever the verifier and the fresh value are.
+#[test]
+fn a_code_shown_twice_ends_its_token() {
+    let empty = Desk::started(1).ledger;
+    let again = Token { now: 1200, verifier: vec![b'x'; 43], fresh: [0; 32], ..Token::default() };
+    for now in [1059, 1200, 9000] {
+        let mut desk = Desk::redeemed();
+        let next = desk.ledger[8..16].to_vec();
+        assert_eq!(
+            desk.token(&Token { now, ..again.clone() }),
+            Answer { number: 15, ..Answer::default() }
+        );
+        assert_eq!(desk.clock(), now);
+        assert_eq!(desk.ledger[8..16], next);
+        assert_eq!(desk.ledger[16..288], empty[16..288], "the record is free");
+        assert_eq!(desk.resource(&Resource { now, ..Resource::default() }).number, 17);
+        assert_eq!(desk.token(&Token { now, ..again.clone() }).number, 14, "the third use");
+        assert_eq!(desk.sweep(now), Swept::default(), "no sweep counts it");
+    }
+    let mut desk = Desk::redeemed();
+    let other = Token { client: B, auth_key: B_KEY, ..again };
+    assert_eq!(desk.token(&other).number, 14);
+    assert_eq!(desk.resource(&Resource::default()).number, 0, "another client ends nothing");
 }
 
 #[test]

@@ -195,6 +195,18 @@ static int unchanged(void) {
 /* A refusal: its number, zeros beside it, and no lent byte changed. */
 #define REFUSED(call, number) (remember(), EXPECT(refused((call), (number))), EXPECT(unchanged()))
 
+/* A second use of a code: its number with zeros; the record in the first place is freed, and the clock is set. */
+static int ended(uint64_t time) {
+    int all = 1;
+    for (int i = 0; i < 8; i++) {
+        all = all && lent(ledger)[i] == (uint8_t)(time >> 8 * (7 - i));
+    }
+    for (size_t i = 0; i < PERDIGOLH_LEDGER_RECORD; i++) {
+        all = all && lent(ledger)[PERDIGOLH_LEDGER_HEAD + i] == 0;
+    }
+    return all;
+}
+
 static void begin(size_t records) {
     uint8_t clients[2 * PERDIGOLH_CLIENT_SIZE] = {0};
     for (size_t i = 0; i < 2; i++) {
@@ -247,10 +259,22 @@ static void granted(void) {
     EXPECT(lent(output)[63] == 0 && lent(output)[64] == 0xcc && lent(output)[69] == 0xcc);
     EXPECT(is(token(in_order(1020, CODE, TOKEN)), 1, holder, 4, 1320));
     EXPECT(is(resource(in_order(1030, TOKEN, 0)), 1, holder, 4, 1320));
-    REFUSED(token(in_order(1040, CODE, 0x44)), PERDIGOLH_CODE_REDEEMED);
-    perdigolh_swept s = sweep(1320);
+    perdigolh_swept s = sweep(1319);
+    EXPECT(s.number == PERDIGOLH_DONE && s.pushed == 0 && s.consented == 0 && s.redeemed == 0);
+    s = sweep(1320);
     EXPECT(s.number == PERDIGOLH_DONE && s.pushed == 0 && s.consented == 0 && s.redeemed == 1);
     REFUSED(resource(in_order(1321, TOKEN, 0)), PERDIGOLH_NO_TOKEN);
+}
+
+/* A code shown twice ends its token. */
+static void shown_twice(void) {
+    begin(2);
+    push(in_order(1000, 0, REFERENCE));
+    decide(in_order(1010, REFERENCE, CODE));
+    token(in_order(1020, CODE, TOKEN));
+    EXPECT(refused(token(in_order(1040, CODE, 0x44)), PERDIGOLH_CODE_REDEEMED) && ended(1040));
+    REFUSED(resource(in_order(1040, TOKEN, 0)), PERDIGOLH_NO_TOKEN);
+    REFUSED(token(in_order(1040, CODE, 0x44)), PERDIGOLH_NO_CODE);
 }
 
 /* Nothing but one value of yes consents. */
@@ -374,7 +398,7 @@ static void token_refused(void) {
     REFUSED(token(r), PERDIGOLH_VERIFIER_DIFFERS);
     REFUSED(token(in_order(1059, CODE, CODE)), PERDIGOLH_FRESH_TAKEN);
     EXPECT(is(token(in_order(1059, CODE, TOKEN)), 1, holder, 4, 1359));
-    REFUSED(token(in_order(9999, CODE, 0)), PERDIGOLH_CODE_REDEEMED);
+    EXPECT(refused(token(in_order(9999, CODE, 0)), PERDIGOLH_CODE_REDEEMED) && ended(9999));
     memset(lent(table), 0, 16);
     REFUSED(token(in_order(9999, CODE, 0)), PERDIGOLH_TABLE_UNSOUND);
     lent(ledger)[31] = 1;
@@ -511,6 +535,7 @@ int main(void) {
     ledger = guard_new(0), table = guard_new(0), output = guard_new(0);
     started();
     granted();
+    shown_twice();
     chosen();
     declined();
     push_refused();

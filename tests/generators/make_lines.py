@@ -100,8 +100,8 @@ GRANT = [
     (token(verifier=VERIFIER[:42]), 5), (token(verifier=b"a" * 129), 5), (token(verifier=b"+" + VERIFIER[1:]), 5),
     (token(code=REFERENCE), 14), (token(client=B, auth=B_KEY), 14), (token(now=1060), 11),
     (token(verifier=b"~" + VERIFIER[1:]), 16), (token(verifier=b"a" * 128), 16), (token(fresh=ZERO), 7),
-    (token(fresh=CODE), 7), (resource(token=CODE), 17), (token(), 0), (token(fresh=UNUSED), 15),
-    (token(client=B, auth=B_KEY), 14), (token(now=9000, verifier=b"a" * 43), 15),
+    (token(fresh=CODE), 7), (resource(token=CODE), 17), (token(), 0),
+    (token(client=B, auth=B_KEY), 14),
     # Resource.
     (resource(now=1058), 2), (resource(token=CODE), 17), (resource(token=ZERO), 17), (resource(now=1359), 11),
     (resource(key=A_KEY), 18), (resource(key=ZERO), 18), (resource(scope=0), 6), (resource(scope=5), 6),
@@ -119,6 +119,19 @@ ONE_SLOT = [
     (token(now=1657), 0), (push(now=1657, fresh=UNUSED), 8), (sweep(1956), 0), (resource(now=1956), 0),
     (sweep(1957), 0), (push(now=1957, fresh=CODE), 0), (start(0), 1), (push(now=1957, fresh=TOKEN), 8),
     (start(1), 0), (push(now=0, fresh=TOKEN), 0), (push(now=0, fresh=CODE), 8),
+]
+
+# Document 02, Q-3: a code shown twice ends its token, and the clock moves; another client's call does nothing.
+SECOND_USE = [
+    (client(), 0), (client(B, B_KEY, 2), 0), (start(1), 0), (push(), 0), (decide(), 0), (token(), 0),
+    (token(now=1100, client=B, auth=B_KEY, fresh=UNUSED), 14), (resource(), 0), (push(now=1100, fresh=UNUSED), 8),
+    (token(now=1100, fresh=UNUSED), 15), (sweep(1099), 2), (resource(now=1100), 17), (token(now=1100), 14), (sweep(1100), 0),
+    # Whatever the verifier and the fresh value; the values come back.
+    (push(now=1100), 0), (decide(now=1100), 0), (token(now=1101), 0), (token(now=1102, verifier=b"a" * 42), 5),
+    (token(now=1102, verifier=b"a" * 43, fresh=ZERO), 15), (resource(now=1102), 17),
+    # Expired or not; no sweep counts it.
+    (push(now=1102), 0), (decide(now=1102), 0), (token(now=1102), 0), (resource(now=1401), 0), (resource(now=1402), 11),
+    (token(now=9000, verifier=b"a" * 43), 15), (sweep(8999), 2), (sweep(9000), 0),
 ]
 
 
@@ -184,7 +197,7 @@ LIFETIMES = [
 ]
 
 STREAMS = {
-    "example": EXAMPLE, "malformed": MALFORMED, "grant": GRANT, "one-slot": ONE_SLOT,
+    "example": EXAMPLE, "malformed": MALFORMED, "grant": GRANT, "one-slot": ONE_SLOT, "second-use": SECOND_USE,
     "two-hundred-slots": TWO_HUNDRED_SLOTS, "64-clients": CLIENTS_64, "65-clients": CLIENTS_65,
     "lifetimes": LIFETIMES,
 }

@@ -17,6 +17,7 @@ CLOCK_END = 1 << 40
 REFERENCE_LIFETIME, MAX_REFERENCE_LIFETIME, CODE_LIFETIME, TOKEN_LIFETIME = 90, 599, 60, 300
 MAX_SLOTS, MAX_CLIENTS, MAX_DIGITS = 200, 64, 640
 NO_FRAME = 0xff
+SECOND_USE = 15  # document 02, Q-3: the one refusal that writes
 
 # The order of the checks, call by call, without those that no line can fail (9 and 20).
 ORDER = {
@@ -255,6 +256,8 @@ class Maker:
         if self.call("token", fields, faults, given, record):
             record.state, record.token, record.key = 3, fields["fresh"], fields["key"]
             record.expiry = fields["now"] + TOKEN_LIFETIME
+        elif self.number == SECOND_USE:
+            self.free(lambda other: other is record)
 
     def resource(self):
         rng = self.rng
@@ -300,7 +303,8 @@ class Maker:
         numbers |= {11} if record and now >= record.expiry else set()
         number = next((n for n in ORDER[kind] if n in numbers), 0)
         self.add(kind, number, **fields)
-        if number == 0:
+        self.number = number
+        if number in (0, SECOND_USE):
             self.clock = now
         return number == 0
 

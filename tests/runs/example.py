@@ -13,14 +13,17 @@ from pathlib import Path
 TOP = Path(__file__).resolve().parent.parent.parent
 PAGE, ARCHIVE = TOP / "docs/FRONT.md", TOP / "target/staticlib/libfront.a"
 RECORDS = 8
-# document 02, Q-2: push 90 seconds where the record says 0; document 01: done is 0, the second use of a code is 15
+# document 02, Q-2: push 90 seconds where the record says 0; document 01: done is 0
 GRANT = """push: 0, grant {}, for 90 seconds under urn:ietf:params:oauth:request_uri:..
 pending: 0, grant {}, scope 4, for https://buyer.example/back
 decide: 0, holder 7, back to https://buyer.example/back
 token: 0, scope 4
 resource: 0, grant {}, holder 7
 introspect: 0, {{"active":true,"client_id":"a..
-token: 15, scope 0
+"""
+# document 02, Q-3: the second use of a code is 15 and ends the token, which is unknown from then on
+TWICE = """token: 15, scope 0
+resource: 17, grant 0, holder 0
 """
 
 
@@ -61,6 +64,10 @@ def in_a_file(program, room):
     yield "next number 2, grant 1, holder 7", [int.from_bytes(bytes_[a:a + 8], "big") for a in (8, 40, 56)] == [2, 1, 7]
     yield "no other file is left but the lock", sorted(path.name for path in Path(room).iterdir()) == ["ledger", "ledger.lock"]
     yield "only its owner reads it", ledger.stat().st_mode & 0o777 == 0o600
+    again = Path(room, "twice")
+    yield "a code shown twice: 15, and from the file 17", run(program, again, "twice").stdout == "start: 0\n" + grant(1) + TWICE
+    bytes_ = again.read_bytes()
+    yield "what 15 left is stored: no record, and the next number", not any(bytes_[32:]) and int.from_bytes(bytes_[8:16], "big") == 2
     more = [subprocess.Popen([program, ledger], stdout=subprocess.PIPE, text=True) for _ in range(RECORDS - 1)]
     said = sorted(process.communicate()[0] for process in more)
     yield "seven at a time: each its own grant", said == [grant(n) for n in range(2, RECORDS + 1)]

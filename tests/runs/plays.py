@@ -4,7 +4,7 @@
   tests/runs/plays.py print   the expected lines
   tests/runs/plays.py check   compare crates/plays/stdout with them, and see that the script plays these calls and every number of each call's list
 
-A line is the call's name, its answer, and the clock and next number of the ledger that it leaves: a refusal leaves both. The script
+A line is the call's name, its answer, and the clock and next number of the ledger that it leaves: a refusal other than 15 leaves both. The script
 is crates/plays/stdin: a line of it is the same name, and what is asked.
 """
 import pathlib
@@ -177,9 +177,6 @@ def redeeming():
     refused("token-13-before-5", 13)      # and an empty verifier: 13 is first
     ledger(1020, 4)
     granted("token-0", 0, 1, 7, 4, 1320)  # RFC 7636, Appendix B; expiry 1020 + 300
-    refused("token-15", 15)               # the second use: the record is not freed at redemption
-    refused("token-15-expired", 15)       # expired or not
-    refused("token-15-before-16", 15)     # and another verifier
     refused("token-14-redeemed", 14)      # another client's code, redeemed
 
 
@@ -282,7 +279,46 @@ def lifetimes():
     swept("sweep-0-says-0", 0, 1, 0, 0)
 
 
-for play in (starts, unsound, pushing, deciding, redeeming, reading, sweeping, numbers, edges, lifetimes):
+def second_uses():
+    """Document 02, Q-3: 15 frees the record and sets the clock."""
+    ledger(0, 1)
+    started("start-second-use", 0)
+    ledger(1000, 2)
+    granted("push-0-second-use", 0, 1, 0, 4, 1599)
+    ledger(1010, 2)
+    decided("decide-0-second-use", 0, 1, 7, 4, 1070, 9, REDIRECT)
+    ledger(1020, 2)
+    granted("token-0-second-use", 0, 1, 7, 4, 1320)
+    refused("token-14-stranger", 14)               # another client's code: 14, and nothing is freed
+    ledger(1021, 2)
+    granted("resource-0-second-use", 0, 1, 7, 4, 1320)
+    ledger(1025, 2)
+    refused("token-15", 15)                        # the record was not freed at redemption; now it is
+    refused("resource-17-ended", 17)               # the token has no record any more
+    refused("token-14-third-use", 14)
+    ledger(1026, 2)
+    swept("sweep-0-ended")
+    ledger(1030, 3)
+    granted("push-0-values-again", 0, 2, 0, 4, 1629)
+    ledger(1031, 3)
+    decided("decide-0-values-again", 0, 2, 7, 4, 1091, 9, REDIRECT)
+    ledger(1032, 3)
+    granted("token-0-values-again", 0, 2, 7, 4, 1332)
+    ledger(1033, 3)
+    refused("token-15-before-16", 15)              # another verifier, and a fresh value of zeros
+    refused("resource-17-values-again", 17)
+    ledger(1040, 4)
+    granted("push-0-expiring", 0, 3, 0, 4, 1639)
+    ledger(1041, 4)
+    decided("decide-0-expiring", 0, 3, 7, 4, 1101, 9, REDIRECT)
+    ledger(1042, 4)
+    granted("token-0-expiring", 0, 3, 7, 4, 1342)
+    ledger(1342, 4)
+    refused("token-15-expired", 15)                # 15 comes before 11
+    swept("sweep-0-expiring")                      # no sweep counts it
+
+
+for play in (starts, unsound, pushing, deciding, redeeming, reading, sweeping, numbers, edges, lifetimes, second_uses):
     play()
 
 

@@ -27,7 +27,7 @@ def card(sheet, x, call, lines):
 
 def draw():
     names = states()
-    sheet = Sheet(1370, 580, "The states of a record", "Free, pushed, consented, redeemed; the calls that lead from one to the next, lifetimes and refusals.")
+    sheet = Sheet(1370, 608, "The states of a record", "Free, pushed, consented, redeemed; the calls that lead from one to the next, lifetimes and refusals.")
     inside = {"Free": "all zeros", "Pushed": "value is the reference", "Consented": "value is the code", "Redeemed": "the code stays; token and bound key"}
     for place, (name, number) in enumerate(names):
         x = LEFT + place * (WIDE + GAP)
@@ -58,16 +58,16 @@ def back(sheet):
     bottom = TOP + TALL
     for place, (begin, shift, words) in enumerate([
             (middle(1) - 60, 60, "decide, no: freed at once"), (middle(1) - 30, 30, "sweep, once expired"),
-            (middle(2), 0, "sweep, once expired: a code dropped"), (middle(3), -30, "sweep, once expired")]):
+            (middle(2), 0, "sweep, once expired: a code dropped"), (middle(3), -30, "sweep, once expired"),
+            (middle(3) + 30, -60, f"token, the code a second time: refused by {numbers()['CodeRedeemed']}, and freed at once, expired or not")]):
         y, end = bottom + 30 + place * 28, middle(0) + shift
         sheet.arrow((begin, bottom + 2), (begin, y), (end, y), (end, bottom + 3))
         sheet.words(middle(0) + 72, y - 6, words, 11)
-    sheet.lines(middle(3) + 14, bottom + 24, [f"a second use of the code: {numbers()['CodeRedeemed']},", "expired or not; nothing changes"], 11, 16)
 
 
 def legend(sheet):
-    y = TOP + TALL + 166
-    sheet.words(LEFT, y, "A refusal gives its number, zeros beside it, and changes no byte. Expired: now is at or past the expiry. The numbers, as the definitions name them:", 12)
+    y = TOP + TALL + 194
+    sheet.words(LEFT, y, "A refusal gives its number, zeros beside it, and changes no byte; 15 alone frees its record and sets the clock. Expired: now is at or past the expiry. The numbers, as the definitions name them:", 12)
     rows = sorted((number, spaced(name)) for name, number in numbers().items())
     for place, (number, name) in enumerate(rows):
         column, row = divmod(place, -(-len(rows) // 5))

@@ -49,7 +49,7 @@ def draw():
             y = top + BAND - 22 - 15 * len(lines) - 6
             sheet.box(MIDDLE[lane] - HALF, y, 2 * HALF, 15 * len(lines) + 8, fill)
             sheet.lines(MIDDLE[lane], y + 15, lines, 11, 15, anchor="middle")
-    sheet.words(16, height - 20, "A refused call changes nothing and gives out a number alone. Two readings under one grant show the same program and the same key: "
+    sheet.words(16, height - 20, "A refused call gives out a number alone, and changes nothing unless a code comes twice. Two readings under one grant show the same program and the same key: "
                 "so the answer is one.", 12)
     return sheet
 

@@ -32,6 +32,24 @@ fn a_grant_from_push_to_reading() {
     assert_eq!(again, Err(Refusal::CodeRedeemed));
 }
 
+/// Document 02, Q-3: a 15 at token has changed the ledger, so it is stored; whoever opens the file anew finds the token ended.
+#[test]
+fn a_code_shown_twice_is_stored() {
+    let room = Room::new("twice");
+    let (keeper, clock) = room.started(1, PLAIN);
+    let pushed = keeper.call(|ledger| ledger.push(&table(), &PUSH)).unwrap().unwrap();
+    let code = keeper.call(|ledger| ledger.decide(&yes(pushed.reference))).unwrap().unwrap().code.unwrap();
+    let token = keeper.call(|ledger| ledger.token(&table(), &redeem(code))).unwrap().unwrap().token;
+    keeper.call(|ledger| ledger.resource(&read(token))).unwrap().unwrap();
+    let before = fs::read(room.file("ledger")).unwrap();
+    assert_eq!(keeper.call(|ledger| ledger.token(&table(), &redeem(code))).unwrap(), Err(Refusal::CodeRedeemed));
+    assert_ne!(fs::read(room.file("ledger")).unwrap(), before);
+    drop(keeper);
+    let anew = room.timed(&clock);
+    assert_eq!(anew.call(|ledger| ledger.resource(&read(token))).unwrap(), Err(Refusal::NoToken));
+    assert_eq!(anew.call(|ledger| ledger.token(&table(), &redeem(code))).unwrap(), Err(Refusal::NoCode));
+}
+
 #[test]
 fn a_name_is_started_once() {
     let room = Room::new("once");

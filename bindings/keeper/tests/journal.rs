@@ -54,6 +54,19 @@ fn a_grant_and_its_refusals_replay() {
 }
 
 #[test]
+fn a_code_shown_twice_replays() {
+    let room = Room::new("twice-replay");
+    let (keeper, _) = room.started(1, WRITTEN);
+    let pushed = keeper.call(|ledger| ledger.push(&table(), &PUSH)).unwrap().unwrap();
+    let code = keeper.call(|ledger| ledger.decide(&yes(pushed.reference))).unwrap().unwrap().code.unwrap();
+    let token = keeper.call(|ledger| ledger.token(&table(), &redeem(code))).unwrap().unwrap().token;
+    assert_eq!(keeper.call(|ledger| ledger.token(&table(), &redeem(code))).unwrap(), Err(Refusal::CodeRedeemed));
+    assert_eq!(keeper.call(|ledger| ledger.resource(&read(token))).unwrap(), Err(Refusal::NoToken));
+    // start, client, push; decide; token; token; resource
+    assert_eq!(replayed(&room), 7);
+}
+
+#[test]
 fn what_no_frame_can_say_has_a_form_of_its_own() {
     let room = Room::new("own");
     let (keeper, _) = room.started(4, WRITTEN);

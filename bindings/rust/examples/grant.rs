@@ -50,10 +50,9 @@ fn main() -> Result<(), Refusal> {
     println!("the code a second time: {}", again.unwrap_err());
     assert_eq!(again, Err(Refusal::CodeRedeemed));
 
-    let swept = ledger.sweep(1320)?;
-    println!("swept: {} token", swept.redeemed);
-    let late = ledger.resource(1321, &read);
-    println!("the token afterwards: {}", late.unwrap_err());
-    assert_eq!(late, Err(Refusal::NoToken));
+    let ended = ledger.resource(1050, &read);
+    println!("the token afterwards: {}", ended.unwrap_err());
+    assert_eq!(ended, Err(Refusal::NoToken));
+    assert_eq!(ledger.sweep(1320)?.redeemed, 0);
     Ok(())
 }

@@ -1,7 +1,8 @@
 //! The permissions desk's calls for a web front, six and two that only read, over the archive that `rt staticlib front` writes.
 //!
 //! The ledger is lent: a [`Ledger`] borrows its bytes for as long as it writes to them, so that one ledger has one writer.
-//! Every call checks for itself what it reads, and ends with an answer or a [`Refusal`]; a refusal has changed nothing.
+//! Every call checks for itself what it reads, and ends with an answer or a [`Refusal`]. A refusal has changed nothing, but
+//! [`Refusal::CodeRedeemed`], which has freed a record and set the clock: the ledger is stored before it is given out.
 //! What the front must have checked before a call is said at that call's request. docs/FRONT.md says how to keep the bytes.
 //!
 //! What a refusal is outside is [`Refusal::at`] a [`Call`]. A value travels by its `to_text` and comes back by its `from_text`,

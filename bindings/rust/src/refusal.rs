@@ -5,7 +5,7 @@ use std::fmt;
 
 macro_rules! refusals {
     ($($name:ident = $number:literal, $words:literal;)*) => {
-        /// Why a call was refused. A refusal has changed nothing.
+        /// Why a call was refused. A refusal has changed nothing, but `CodeRedeemed`: the ledger it left is to be stored.
         #[derive(Clone, Copy, Debug, PartialEq, Eq, Hash)]
         #[repr(u8)]
         pub enum Refusal {

@@ -56,14 +56,14 @@ impl World {
         world
     }
 
-    /// Makes a call; a refusal must leave ledger and output as they were.
+    /// Makes a call; a refusal must leave ledger and output as they were, all but 15.
     fn call<T>(
         &mut self,
         call: impl FnOnce(&mut Ledger, &[u8], &mut [u8]) -> Result<T, Refusal>,
     ) -> Result<T, Refusal> {
         let before = (self.bytes.clone(), self.output.clone());
         let result = call(&mut Ledger::lent(&mut self.bytes), &self.table, &mut self.output);
-        if result.is_err() {
+        if matches!(result, Err(refusal) if refusal != Refusal::CodeRedeemed) {
             assert!(before == (self.bytes.clone(), self.output.clone()), "a refusal changed something");
         }
         result
@@ -250,12 +250,15 @@ fn token_is_refused_in_order() {
     assert_eq!(world.token(1059, Redeem { fresh: Token([0; 32]), ..REDEEM }), Err(FreshTaken));
     assert_eq!(world.token(1059, Redeem { fresh: Token(CODE.0), ..REDEEM }), Err(FreshTaken));
     world.token(1059, REDEEM).unwrap();
-    assert_eq!(world.token(9999, Redeem { verifier: &long[..43], ..REDEEM }), Err(CodeRedeemed));
     assert_eq!(world.token(9999, Redeem { client: OTHER, ..REDEEM }), Err(NoCode));
+    assert_eq!(world.token(9999, Redeem { verifier: &long[..43], ..REDEEM }), Err(CodeRedeemed));
+    assert!(world.bytes[32..].iter().all(|&byte| byte == 0), "the record is free");
+    assert_eq!(world.bytes[..8], 9999u64.to_be_bytes());
+    assert_eq!(world.token(9999, REDEEM), Err(NoCode));
     world.table[0..16].fill(0);
-    assert_eq!(world.token(1059, REDEEM), Err(TableUnsound));
+    assert_eq!(world.token(9999, REDEEM), Err(TableUnsound));
     world.bytes.push(0);
-    assert_eq!(world.token(1059, REDEEM), Err(LedgerUnsound));
+    assert_eq!(world.token(9999, REDEEM), Err(LedgerUnsound));
 }
 
 #[test]

@@ -3,7 +3,7 @@ use Prim.Native.Nat.{ℕ, _+_, _≤_, _<_, _^_}
 use native.Mathlib.Omega.{arith}
 use native.Mathlib.Nat.{le-refl}
 use native.Mathlib.Decide.{decLt}
-use mathlib.Core.Path.{_≡_, refl, ap, _∙_}
+use mathlib.Core.Path.{_≡_, refl, sym, ap, _∙_}
 use mathlib.Core.Logic.{_≢_}
 use mathlib.Core.Bool.{Bool, true, false, _&&_, cond}
 use mathlib.Core.List.{List}
@@ -20,7 +20,7 @@ use Rattle.ledger.specs.Sound.{sized}
 use Rattle.ledger.specs.Checks.{isFree, isReference, isCode, expired}
 use Rattle.ledger.specs.Write.{pushed, consented, redeemed, free}
 use Rattle.ledger.specs.Sweep.{sweptRecord, swept}
-use Rattle.ledger.proofs.Records.{slot-within, rec-length, length-with, rec-other}
+use Rattle.ledger.proofs.Records.{slot-within, rec-length, length-with, rec-same, rec-other}
 use Rattle.ledger_laws.proofs.Heads.{length-clock, rec-clock, next-clock, rest-clock, clock-is, length-next, rec-next, rest-next, next-is, next-with, rest-with, next-left}
 use Rattle.ledger_laws.proofs.Puts.{drop-put}
 use Rattle.ledger.proofs.Swept.{length-free, length-to, rec-ahead, rec-swept}
@@ -29,7 +29,7 @@ use Rattle.ledger_laws.proofs.Says.{of-sound}
 use Rattle.ledger_laws.proofs.Searches.{first-in}
 use Rattle.desk.specs.Limits.{outputLeast}
 use Rattle.desk.specs.Answers.{done, numberOf}
-use Rattle.desk.specs.Requests.{PushRequest, DecideRequest, TokenRequest, ResourceRequest}
+use Rattle.desk.specs.Requests.{PushRequest, DecideRequest, TokenRequest, ResourceRequest, PendingRequest}
 use Rattle.desk.specs.Outcome.{Outcome, left}
 use Rattle.desk.specs.Push.{pushRecord, pushAt, push}
 use Rattle.desk.specs.Decide.{referencePlace, handedOut, consentRecord, consentAt, declineAt, decideAt, decide}
@@ -38,18 +38,16 @@ use Rattle.desk.specs.Resource.{resource}
 use Rattle.desk.specs.Sweep.{sweep}
 use Rattle.desk.specs.Start.{start, emptyLedger}
 use Rattle.desk.specs.Introspect.{introspectWith, introspect}
-use Rattle.desk.specs.declared.answer.Refusal.the-variants.{LedgerUnsound}
+use Rattle.desk.specs.declared.answer.Refusal.the-variants.{LedgerUnsound, CodeRedeemed}
 use Rattle.desk.proofs.Written.{timely-lt}
 use Rattle.desk.specs.declared.answer.Answer.{Answer}
 use Rattle.desk.specs.declared.answer.Decided.{Decided}
 use Rattle.desk.specs.declared.answer.Swept.{Swept}
 use Rattle.desk.specs.declared.answer.Introspected.{Introspected}
 use Rattle.desk.proofs.Turns.{number-refused}
-use Rattle.call_laws.proofs.Rows.{push-cases, decide-cases, token-cases, resource-cases, sweep-cases, introspect-cases}
-use Rattle.desk.specs.Requests.{PendingRequest}
+use Rattle.call_laws.proofs.Rows.{push-cases, decide-cases, token-cases, resource-cases, sweep-cases, introspect-cases, pending-cases, token-outcomes}
 use Rattle.desk.specs.Pending.{pendingAt, pending}
-use Rattle.call_laws.proofs.Rows.{pending-cases}
-use Rattle.call_laws.proofs.Facts.{PushFacts, push-facts, DecideFacts, decide-facts, TokenFacts, token-facts, resource-facts, sweep-facts}
+use Rattle.call_laws.proofs.Facts.{PushFacts, push-facts, DecideFacts, decide-facts, TokenFacts, token-facts, resource-facts, sweep-facts, SecondUseFacts, second-use-facts}
 
 -- ---- one record rewritten, and the clock
 
@@ -233,10 +231,35 @@ module _ (l : List ℕ) (t : ℕ) (table : List ℕ) (q : TokenRequest) where
       let f = token-facts l t table q ok in
       rewritten t l (codePlace l q) (tokenRecord t q (rec l (codePlace l q))) (token-inside f) (token-long f) (timely-lt l t (f .in-time)))
 
+  second-use-inside : SecondUseFacts l t table q → codePlace l q < slots l
+  second-use-inside f = first-in (isCode (q .code) (q .client)) l (f .there) .inside
+
+  -- document 02, Q-3: "When 15 is due, the record now becomes free and the clock becomes now."
+  pub second-use-alone : (token l t table q) .answer .number ≡ numberOf CodeRedeemed → OneRewritten t l ((token l t table q) .ledger) (codePlace l q)
+  unfolding tokenAt
+  second-use-alone =
+      token-outcomes l t table q (λ (o : Outcome Answer). o .answer .number ≡ numberOf CodeRedeemed → OneRewritten t l (o .ledger) (codePlace l q))
+      (λ why u n e. absurd (eqb-false (numberOf why) (numberOf CodeRedeemed) n e))
+      (λ u e.
+      let f = second-use-facts l t table q u in
+      rewritten t l (codePlace l q) free (second-use-inside f) length-free (timely-lt l t (f .in-time)))
+      (λ ok e. absurd (number-refused CodeRedeemed (sym e)))
+
+  pub second-use-freed : (token l t table q) .answer .number ≡ numberOf CodeRedeemed → rec ((token l t table q) .ledger) (codePlace l q) ≡ free
+  unfolding tokenAt
+  second-use-freed =
+      token-outcomes l t table q (λ (o : Outcome Answer). o .answer .number ≡ numberOf CodeRedeemed → rec (o .ledger) (codePlace l q) ≡ free)
+      (λ why u n e. absurd (eqb-false (numberOf why) (numberOf CodeRedeemed) n e))
+      (λ u e.
+      let f = second-use-facts l t table q u in
+      rec-clock t (withRecord l (codePlace l q) free) (codePlace l q) ∙ rec-same l (codePlace l q) free length-free (second-use-inside f))
+      (λ ok e. absurd (number-refused CodeRedeemed (sym e)))
+
   pub token-next : nextNumber ((token l t table q) .ledger) ≡ nextNumber l
   unfolding tokenAt
   token-next =
-      token-cases l t table q (λ (o : Outcome Answer). nextNumber (o .ledger) ≡ nextNumber l) (λ why u. refl)
+      token-outcomes l t table q (λ (o : Outcome Answer). nextNumber (o .ledger) ≡ nextNumber l) (λ why u n. refl)
+      (λ u. next-kept t l (codePlace l q) free (second-use-inside (second-use-facts l t table q u)) length-free)
       (λ ok.
       let f = token-facts l t table q ok in
       next-kept t l (codePlace l q) (tokenRecord t q (rec l (codePlace l q))) (token-inside f) (token-long f))
@@ -342,10 +365,13 @@ decide-unchanged l t d out =
     (λ ok.
     either-way l t d out (λ (o : Outcome Decided). o .answer .answer .number ≢ done → (o .ledger ≡ l) × (o .output ≡ out)) (λ n. absurd (n refl)) (λ n. absurd (n refl)))
 
-pub token-unchanged : (l : List ℕ) (t : ℕ) (table : List ℕ) (q : TokenRequest) → (token l t table q) .answer .number ≢ done → (token l t table q) .ledger ≡ l
+-- 15 alone does
+pub token-unchanged : (l : List ℕ) (t : ℕ) (table : List ℕ) (q : TokenRequest) → (token l t table q) .answer .number ≢ done
+    → (token l t table q) .answer .number ≢ numberOf CodeRedeemed → (token l t table q) .ledger ≡ l
 unfolding tokenAt
 token-unchanged l t table q =
-    token-cases l t table q (λ (o : Outcome Answer). o .answer .number ≢ done → o .ledger ≡ l) (λ why u n. refl) (λ ok n. absurd (n refl))
+    token-outcomes l t table q (λ (o : Outcome Answer). o .answer .number ≢ done → o .answer .number ≢ numberOf CodeRedeemed → o .ledger ≡ l)
+    (λ why u e n m. refl) (λ u n m. absurd (m refl)) (λ ok n m. absurd (n refl))
 
 pub resource-unchanged : (l : List ℕ) (t : ℕ) (q : ResourceRequest) → (resource l t q) .answer .number ≢ done → (resource l t q) .ledger ≡ l
 resource-unchanged l t q =

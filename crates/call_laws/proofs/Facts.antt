@@ -1,11 +1,12 @@
 -- What the checks that passed say, each under its name, for each call and both ways.
 use Prim.Native.Nat.{ℕ}
-use mathlib.Core.Path.{_≡_, ap}
-use mathlib.Core.Bool.{true, false, not, _&&_}
-use mathlib.Core.List.{List}
+use mathlib.Core.Path.{_≡_, refl, sym, ap, _∙_}
+use mathlib.Core.Logic.{_⊎_, inl, inr, ⊎-elim}
+use mathlib.Core.Bool.{Bool, true, false, not, _&&_, true≢false}
+use mathlib.Core.List.{List, [], _∷_}
 use lib.Dec.{eqb, ltb}
 use lib.ListN.{length}
-use borrow.Author.Tests.{not-false}
+use borrow.Author.Tests.{eq-eqb, not-false}
 use Rattle.octets.specs.Lists.{some}
 use Rattle.octets.specs.Parts.{zeros, same}
 use Rattle.forms.specs.Forms.{redirectFormed, challengeFormed, verifierFormed}
@@ -19,17 +20,19 @@ use Rattle.clients.specs.Fields.{permitted}
 use Rattle.clients.specs.Known.{isKnown}
 use Rattle.clients.specs.Sound.{sound as tableSound}
 use Rattle.desk.specs.Limits.{outputLeast}
-use Rattle.desk.specs.Checks.{scopeFits}
-use Rattle.desk.specs.Requests.{PushRequest, DecideRequest, TokenRequest, ResourceRequest}
+use Rattle.desk.specs.Checks.{Check, scopeFits}
+use Rattle.desk.specs.Requests.{PushRequest, DecideRequest, TokenRequest, ResourceRequest, PendingRequest}
 use Rattle.desk.specs.Push.{clientRecord, pushChecks}
 use Rattle.desk.specs.Decide.{referencePlace, decideChecks}
 use Rattle.desk.specs.Token.{codePlace, tokenChecks}
 use Rattle.desk.specs.Resource.{tokenPlace, resourceChecks}
 use Rattle.desk.specs.Sweep.{sweepChecks}
-use Rattle.desk.specs.Requests.{PendingRequest}
 use Rattle.desk.specs.Pending.{pendingPlace, pendingChecks}
 use Rattle.desk.specs.Introspect.{textFor, introspectChecks}
-use Rattle.desk.proofs.Turns.{Passed}
+use Rattle.desk.proofs.Turns.{Passed, Turn}
+use Rattle.desk.specs.Answers.{numberOf}
+use Rattle.desk.specs.declared.answer.Refusal.{Refusal}
+use Rattle.desk.specs.declared.answer.Refusal.the-variants.{CodeRedeemed}
 
 -- ---- push
 
@@ -156,6 +159,49 @@ module _ (l : List ℕ) (t : ℕ) (table : List ℕ) (q : TokenRequest) where
       ),
     ),
   )
+
+-- ---- token, where 15 is due
+
+-- where the turn of a row has come: every check before it has passed, and it holds, or one of its number behind it. Of a call's list this computes.
+abbrev Here : Bool → Type 0 → Type 0 → Type 0
+Here true P Q = P
+Here false P Q = Q
+
+abbrev Due : Refusal → List Check → Type 0
+Due why [] = ⊥
+Due why (c ∷ cs) = Here (eqb (numberOf (c .why)) (numberOf why)) ((c .holds ≡ true) ⊎ Due why cs) ((c .holds ≡ false) × Due why cs)
+
+turn-due : (why : Refusal) (cs : List Check) → Turn why cs → Due why cs
+turn-due why [] u = u
+turn-due why (c ∷ cs) u = go (eqb (numberOf (c .why)) (numberOf why)) refl (turn-due why cs)
+  where
+    go : (b : Bool) → eqb (numberOf (c .why)) (numberOf why) ≡ b → (Turn why cs → Due why cs)
+        → Here b ((c .holds ≡ true) ⊎ Due why cs) ((c .holds ≡ false) × Due why cs)
+    go true e f = ⊎-elim {C = (c .holds ≡ true) ⊎ Due why cs} (λ x. inl (x .0)) (λ y. inr (f (y .1))) u
+    go false e f =
+        ⊎-elim {C = (c .holds ≡ false) × Due why cs} (λ x. absurd (true≢false (sym (eq-eqb (numberOf (c .why)) (numberOf why) (ap numberOf (x .1))) ∙ e)))
+        (λ y. (y .0, f (y .1))) u
+
+none-behind : (P Q : Type 0) → (Q → ⊥) → P ⊎ Q → P
+none-behind P Q n u = ⊎-elim {C = P} (λ x. x) (λ y. absurd (n y)) u
+
+pub record SecondUseFacts (l : List ℕ) (t : ℕ) (table : List ℕ) (q : TokenRequest) : Type 0 where
+  pub ledger-sound : sound l ≡ true
+  pub in-time : untimely l t ≡ false
+  pub there : some (isCode (q .code) (q .client)) (records l) ≡ true
+  pub redeemed : inState Redeemed (rec l (codePlace l q)) ≡ true
+
+module _ (l : List ℕ) (t : ℕ) (table : List ℕ) (q : TokenRequest) where
+  pub second-use-facts : Turn CodeRedeemed (tokenChecks l t table q (codePlace l q)) → SecondUseFacts l t table q
+  unfolding tokenChecks
+  second-use-facts u =
+      let (a, (b, (_, (_, (_, (_, (c, d))))))) = turn-due CodeRedeemed (tokenChecks l t table q (codePlace l q)) u in
+      record {
+        ledger-sound = not-false (sound l) a;
+        in-time = b;
+        there = not-false (some (isCode (q .code) (q .client)) (records l)) c;
+        redeemed = none-behind _ _ (λ v. v .1 .1 .1) d;
+      }
 
 -- ---- resource
 

@@ -41,8 +41,8 @@ use Rattle.desk.specs.declared.answer.Answer.{Answer}
 use Rattle.desk.specs.declared.answer.Decided.{Decided}
 use Rattle.desk.specs.declared.answer.Swept.{Swept}
 use Rattle.desk.proofs.Turns.{number-refused}
-use Rattle.call_laws.proofs.Rows.{push-cases, decide-cases, token-cases, resource-cases, sweep-cases}
-use Rattle.call_laws.proofs.Facts.{push-facts, DecideFacts, decide-facts, token-facts, resource-facts, sweep-facts}
+use Rattle.call_laws.proofs.Rows.{push-cases, decide-cases, token-outcomes, resource-cases, sweep-cases}
+use Rattle.call_laws.proofs.Facts.{push-facts, DecideFacts, decide-facts, token-facts, second-use-facts, resource-facts, sweep-facts}
 use Rattle.call_laws.proofs.Alone.{either-way}
 use Rattle.call_laws.proofs.Profile.{lives-under}
 use Rattle.call_laws.proofs.Readings.{known-is, scope-says, code-waits}
@@ -161,7 +161,11 @@ module _ (l : List ℕ) (t : ℕ) (table : List ℕ) (q : TokenRequest) where
   pub token-sound : sound l ≡ true → TokenTyped q → sound ((token l t table q) .ledger) ≡ true
   unfolding tokenAt tokenRecord
   token-sound s y =
-      token-cases l t table q (λ (o : Outcome Answer). sound (o .ledger) ≡ true) (λ why u. s)
+      token-outcomes l t table q (λ (o : Outcome Answer). sound (o .ledger) ≡ true) (λ why u n. s)
+      (λ u.
+      let f = second-use-facts l t table q u in
+      let a = first-in (isCode (q .code) (q .client)) l (f .there) in
+      sound-clock t _ (sound-freed l (codePlace l q) s (a .inside)) (timely-lt l t (f .in-time)))
       (λ ok.
       let f = token-facts l t table q ok in
       let a = first-in (isCode (q .code) (q .client)) l (f .there) in
@@ -175,7 +179,8 @@ module _ (l : List ℕ) (t : ℕ) (table : List ℕ) (q : TokenRequest) where
   pub token-octets : Octets l → TokenTyped q → Octets ((token l t table q) .ledger)
   unfolding tokenAt tokenRecord
   token-octets o y =
-      token-cases l t table q (λ (o : Outcome Answer). Octets (o .ledger)) (λ why u. o)
+      token-outcomes l t table q (λ (o : Outcome Answer). Octets (o .ledger)) (λ why u n. o)
+      (λ u. octets-clock t _ (octets-with l (codePlace l q) free o octets-free))
       (λ ok.
       let k = codePlace l q in
       octets-clock t _

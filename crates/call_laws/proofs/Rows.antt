@@ -6,19 +6,19 @@ use mathlib.Core.Bool.{Bool, true, false, not, _||_, cond, or-true, false≢true
 use lib.ListN.{length}
 use mathlib.Core.List.{List, [], _∷_, map}
 use lib.Dec.{eqb}
-use borrow.Author.Tests.{eq-eqb}
+use borrow.Author.Tests.{eqb-true, eq-eqb}
 use Rattle.octets.specs.Lists.{some, place}
 use Rattle.ledger.specs.Fields.{records, rec, withClock}
 use Rattle.ledger.specs.Checks.{isFree}
 use Rattle.ledger.specs.Sound.{sized}
 use Rattle.ledger.specs.Sweep.{freed, swept}
-use Rattle.desk.specs.Answers.{numberOf, done, answerOf, sweptOf}
+use Rattle.desk.specs.Answers.{numberOf, done, refused, answerOf, sweptOf}
 use Rattle.desk.specs.Checks.{Check, _when_, Verdict, accepted, stopped, first}
 use Rattle.desk.specs.Requests.{PushRequest, DecideRequest, TokenRequest, ResourceRequest}
 use Rattle.desk.specs.Outcome.{Outcome, left, concludes}
 use Rattle.desk.specs.Push.{pushChecks, pushAt, pushLeaves, push}
 use Rattle.desk.specs.Decide.{decideLeaves, referencePlace, decideChecks, consentAt, declineAt, decideAt, decide}
-use Rattle.desk.specs.Token.{codePlace, tokenChecks, tokenAt, tokenLeaves, token}
+use Rattle.desk.specs.Token.{codePlace, tokenChecks, tokenAt, ended, tokenLeaves, token}
 use Rattle.desk.specs.Resource.{tokenPlace, resourceChecks, readBy, look, resourceLeaves, resourceBy, resource}
 use Rattle.desk.specs.Sweep.{sweepChecks, sweepLeaves, sweep}
 use Rattle.desk.specs.Start.{start, emptyLedger}
@@ -30,8 +30,8 @@ use Rattle.desk.specs.declared.answer.Decided.{Decided}
 use Rattle.desk.specs.declared.answer.Swept.{Swept}
 use Rattle.desk.specs.declared.answer.Introspected.{Introspected}
 use Rattle.desk.specs.declared.answer.Refusal.{Refusal}
-use Rattle.desk.specs.declared.answer.Refusal.the-variants.{LedgerUnsound}
-use Rattle.desk.proofs.Turns.{Passed, Turn, by-turns, numberBy, number-stopped, number-refused, passes-exactly, turns-exactly}
+use Rattle.desk.specs.declared.answer.Refusal.the-variants.{LedgerUnsound, CodeRedeemed}
+use Rattle.desk.proofs.Turns.{Passed, Turn, by-turns, number-row, numberBy, number-stopped, number-refused, passes-exactly, turns-exactly}
 
 -- ---- each call goes by its checks
 
@@ -85,17 +85,31 @@ module _ (l : List ℕ) (t : ℕ) (d : DecideRequest) (out : List ℕ) where
   decide-turn = turns-exactly _ (decideChecks l t d out (referencePlace l d)) decide-number
 
 module _ (l : List ℕ) (t : ℕ) (table : List ℕ) (q : TokenRequest) where
-  pub token-cases : (P : Outcome Answer → Type 0) → ((why : Refusal) → Turn why (tokenChecks l t table q (codePlace l q)) → P (tokenLeaves l why))
+  pub token-cases : (P : Outcome Answer → Type 0) → ((why : Refusal) → Turn why (tokenChecks l t table q (codePlace l q)) → P (tokenLeaves l t (codePlace l q) why))
       → (Passed (tokenChecks l t table q (codePlace l q)) → P (tokenAt l t q (codePlace l q))) → P (token l t table q)
   unfolding token
   token-cases P f g =
-      by-turns (tokenChecks l t table q (codePlace l q)) (λ (v : Verdict). P (concludes v (tokenLeaves l) (tokenAt l t q (codePlace l q)))) f g
+      by-turns (tokenChecks l t table q (codePlace l q)) (λ (v : Verdict). P (concludes v (tokenLeaves l t (codePlace l q)) (tokenAt l t q (codePlace l q)))) f g
+
+  -- the same by what is left: a row that leaves the ledger as it was, 15, or the call done
+  pub token-outcomes : (P : Outcome Answer → Type 0)
+      → ((why : Refusal) → Turn why (tokenChecks l t table q (codePlace l q)) → eqb (numberOf why) (numberOf CodeRedeemed) ≡ false → P (left (refused why) l))
+      → (Turn CodeRedeemed (tokenChecks l t table q (codePlace l q)) → P (left (refused CodeRedeemed) (ended l t (codePlace l q))))
+      → (Passed (tokenChecks l t table q (codePlace l q)) → P (tokenAt l t q (codePlace l q))) → P (token l t table q)
+  token-outcomes P f e g = token-cases P (λ why u. row why u (eqb (numberOf why) (numberOf CodeRedeemed)) refl) g
+    where
+      row : (why : Refusal) → Turn why (tokenChecks l t table q (codePlace l q)) → (b : Bool) → eqb (numberOf why) (numberOf CodeRedeemed) ≡ b
+          → P (left (refused why) (cond b (ended l t (codePlace l q)) l))
+      row why u true h =
+          let w = number-row why CodeRedeemed (eqb-true (numberOf why) (numberOf CodeRedeemed) h) in
+          rw w (e (rw w at u))
+      row why u false h = f why u h
 
   token-number : (token l t table q) .answer .number ≡ numberBy (first (tokenChecks l t table q (codePlace l q)))
   unfolding token tokenAt
   token-number = by (first (tokenChecks l t table q (codePlace l q)))
     where
-      by : (v : Verdict) → (concludes v (tokenLeaves l) (tokenAt l t q (codePlace l q))) .answer .number ≡ numberBy v
+      by : (v : Verdict) → (concludes v (tokenLeaves l t (codePlace l q)) (tokenAt l t q (codePlace l q))) .answer .number ≡ numberBy v
       by accepted = refl
       by (stopped why) = refl
 
@@ -291,7 +305,7 @@ start-numbers l = by (sized l)
     by true = refl
     by false = refl
 
--- ---- "A refusal has zeros beside its number and changes no lent byte, clock included."
+-- ---- "A refusal has zeros beside its number and changes no lent byte, clock included"; what a token call leaves at 15 is in its `tokenLeaves`
 
 pub push-refusal : (l : List ℕ) (t : ℕ) (table : List ℕ) (p : PushRequest) (why : Refusal)
     → (push l t table p) .answer .number ≡ numberOf why → push l t table p ≡ pushLeaves l why
@@ -308,10 +322,10 @@ decide-refusal l t d out why e =
     (number-stopped (first (decideChecks l t d out (referencePlace l d))) why (sym (decide-number l t d out) ∙ e))
 
 pub token-refusal : (l : List ℕ) (t : ℕ) (table : List ℕ) (q : TokenRequest) (why : Refusal)
-    → (token l t table q) .answer .number ≡ numberOf why → token l t table q ≡ tokenLeaves l why
+    → (token l t table q) .answer .number ≡ numberOf why → token l t table q ≡ tokenLeaves l t (codePlace l q) why
 unfolding token
 token-refusal l t table q why e =
-    ap (λ (v : Verdict). concludes v (tokenLeaves l) (tokenAt l t q (codePlace l q)))
+    ap (λ (v : Verdict). concludes v (tokenLeaves l t (codePlace l q)) (tokenAt l t q (codePlace l q)))
     (number-stopped (first (tokenChecks l t table q (codePlace l q))) why (sym (token-number l t table q) ∙ e))
 
 pub resource-refusal : (l : List ℕ) (t : ℕ) (q : ResourceRequest) (why : Refusal)

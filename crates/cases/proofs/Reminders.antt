@@ -1,7 +1,9 @@
 -- What is easy to get wrong, shown right.
 use Prim.Native.Nat.{ℕ, _+_, _<_}
+use native.Mathlib.Omega.{arith}
+use native.Mathlib.Decide.{ℕ-discrete}
 use mathlib.Core.Path.{_≡_, refl, sym, ap, _∙_}
-use mathlib.Core.Logic.{_≢_, _⊎_, inr}
+use mathlib.Core.Logic.{_≢_, _⊎_, inr, ⊎-elim}
 use mathlib.Core.Bool.{Bool, true, false, not, _&&_, cond, false≢true}
 use mathlib.Core.List.{List, [], _∷_}
 use borrow.Author.Tests.{eqb-true, eq-eqb, not-true}
@@ -9,22 +11,26 @@ use Rattle.octets.specs.Lists.{some}
 use Rattle.octets.proofs.Tests.{both, both-true, false-of}
 use Rattle.octets.proofs.Parts.{differ-of}
 use Rattle.ledger.specs.Limits.{tokenLifetime}
-use Rattle.ledger.specs.Fields.{records, rec, slots, state, stateNumber, inState, client, value, boundKey}
-use Rattle.ledger.specs.Sound.{sound}
-use Rattle.ledger.specs.Checks.{isCode}
+use Rattle.ledger.specs.Fields.{records, rec, slots, state, stateNumber, inState, client, value, token as tokenOf, boundKey}
+use Rattle.ledger.specs.Sound.{holds, sound}
+use Rattle.ledger.specs.Checks.{isCode, isToken}
+use Rattle.ledger.specs.Write.{free}
 use Rattle.ledger.specs.declared.state.State.the-variants.{Consented, Redeemed}
 use Rattle.ledger_laws.proofs.Slots.{slotOf}
+use Rattle.ledger_laws.proofs.Replaced.{free-state}
 use Rattle.ledger_laws.proofs.Says.{of-sound}
-use Rattle.ledger_laws.proofs.Searches.{first-in, none-found, alone, code-holds, code-first, code-says}
+use Rattle.ledger_laws.proofs.Searches.{first-in, none-found, alone, code-holds, token-holds, code-first, code-says, token-says}
 use Rattle.desk.specs.Answers.{numberOf, done}
 use Rattle.desk.specs.Checks.{Check, stopped, first}
 use Rattle.desk.specs.Requests.{TokenRequest, ResourceRequest}
 use Rattle.desk.specs.Token.{codePlace, tokenRecord, tokenChecks}
 use Rattle.desk.specs.Resource.{tokenPlace, resourceChecks}
 use Rattle.desk.specs.declared.answer.Refusal.{Refusal}
-use Rattle.desk.specs.declared.answer.Refusal.the-variants.{NoCode, CodeRedeemed, KeyDiffers}
+use Rattle.desk.specs.declared.answer.Refusal.the-variants.{NoCode, CodeRedeemed, NoToken, KeyDiffers}
 use Rattle.desk.proofs.Turns.{numberBy}
-use Rattle.call_laws.proofs.Alone.{push-unchanged, decide-unchanged, token-unchanged, resource-unchanged, sweep-unchanged}
+use Rattle.call_laws.proofs.Rows.{token-turn}
+use Rattle.call_laws.proofs.Facts.{SecondUseFacts, second-use-facts}
+use Rattle.call_laws.proofs.Alone.{OneRewritten, second-use-alone, second-use-freed, push-unchanged, decide-unchanged, token-unchanged, resource-unchanged, sweep-unchanged}
 use Rattle.call_laws.proofs.Readings.{place-named}
 use Rattle.history.specs.Runs.{Call, push, decide, token, resource, sweep, TypedToken, step}
 use Rattle.history.proofs.Steps.{checksOf}
@@ -113,6 +119,84 @@ second-use l a table q y ok t again w c d e =
     comes m (token t again w) CodeRedeemed e
     (ap (λ (k : ℕ). inState Redeemed (rec m k)) at ∙ z)
 
+-- ---- what it ends: no record has the code or the token any more
+
+module _ (l : List ℕ) (a : ℕ) (table : List ℕ) (q : TokenRequest) (e : answers (l, token a table q) ≡ 15) where
+  abbrev ended-at : ℕ
+  ended-at = codePlace l q
+
+  abbrev ended-ledger : List ℕ
+  ended-ledger = step l (token a table q) .after
+
+  ended-facts : SecondUseFacts l a table q
+  unfolding step
+  ended-facts = second-use-facts l a table q (token-turn l a table q CodeRedeemed .0 e)
+
+  ended-alone : OneRewritten a l ended-ledger ended-at
+  unfolding step
+  ended-alone = second-use-alone l a table q e
+
+  ended-free : rec ended-ledger ended-at ≡ free
+  unfolding step
+  ended-free = second-use-freed l a table q e
+
+  ended-found : isCode (q .code) (q .client) (rec l ended-at) ≡ true
+  ended-found = first-in (isCode (q .code) (q .client)) l (ended-facts .there) .passes
+
+  ended-slots : slots ended-ledger ≡ slots l
+  unfolding slots
+  ended-slots = rw (ended-alone .long)
+
+  -- of a value that stood in the record freed: a test that only records with the value pass, and the free record does not
+  ended-none : (v : List ℕ) (test : List ℕ → Bool) → test free ≡ false → ((j : ℕ) → j < slots l → test (rec l j) ≡ true → holds v (rec l j) ≡ true)
+      → holds v (rec l ended-at) ≡ true → some test (records ended-ledger) ≡ false
+  ended-none v test none has mine = none-found test ended-ledger (λ j h. go j (rw ended-slots at h) (ℕ-discrete j ended-at))
+    where
+      go : (j : ℕ) → j < slots l → Dec (j ≡ ended-at) → test (rec ended-ledger j) ≡ false
+      go j h (yes z) = ap (λ (i : ℕ). test (rec ended-ledger i)) z ∙ ap test ended-free ∙ none
+      go j h (no ne) =
+          ap test (ended-alone .others j ne)
+          ∙ false-of _ (λ p. ne (alone _ l (of-sound l (ended-facts .ledger-sound) .within) v j ended-at h (ended-alone .inside) (has j h p) mine))
+
+  no-code : some (isCode (q .code) (q .client)) (records ended-ledger) ≡ false
+  no-code =
+      let each = of-sound l (ended-facts .ledger-sound) .within .each in
+      ended-none (q .code) (isCode (q .code) (q .client))
+      (false-of _ (λ p.
+      let f = free-state in
+      ⊎-elim {C = ⊥} (λ s. omega arith) (λ s. omega arith) (code-says (q .code) (q .client) free .0 p .0)))
+      (λ j h p. code-holds _ (rec l j) (each j h) (q .code) (q .client) p)
+      (code-holds _ (rec l ended-at) (each ended-at (ended-alone .inside)) (q .code) (q .client) ended-found)
+
+  no-token : some (isToken (tokenOf (rec l ended-at))) (records ended-ledger) ≡ false
+  no-token =
+      let each = of-sound l (ended-facts .ledger-sound) .within .each in
+      let v = tokenOf (rec l ended-at) in
+      let mine = token-says v (rec l ended-at) .1 (eqb-true (state (rec l ended-at)) 3 (ended-facts .redeemed), refl) in
+      ended-none v (isToken v) (false-of _ (λ p. let f = free-state in let s = token-says v free .0 p .0 in omega arith))
+      (λ j h p. token-holds _ (rec l j) (each j h) v p)
+      (token-holds _ (rec l ended-at) (each ended-at (ended-alone .inside)) v mine)
+
+third-use : (l : List ℕ) (a : ℕ) (table : List ℕ) (q : TokenRequest) → answers (l, token a table q) ≡ 15
+    → (t : ℕ) (again : List ℕ) (w : TokenRequest) → w .code ≡ q .code → w .client ≡ q .client
+    → comesTo NoCode (tokenChecks (step l (token a table q) .after) t again w (codePlace (step l (token a table q) .after) w)) ≡ true
+    → answers (step l (token a table q) .after, token t again w) ≡ 14
+unfolding tokenChecks
+third-use l a table q e t again w c d h =
+    let m = step l (token a table q) .after in
+    let n : some (isCode (w .code) (w .client)) (records m) ≡ false = rw (c, d) (no-code l a table q e) in
+    comes m (token t again w) NoCode h (ap not n)
+
+token-ended : (l : List ℕ) (a : ℕ) (table : List ℕ) (q : TokenRequest) → answers (l, token a table q) ≡ 15
+    → (t : ℕ) (w : ResourceRequest) → w .token ≡ tokenOf (rec l (codePlace l q))
+    → comesTo NoToken (resourceChecks (step l (token a table q) .after) t w (tokenPlace (step l (token a table q) .after) w)) ≡ true
+    → answers (step l (token a table q) .after, resource t w) ≡ 17
+unfolding resourceChecks
+token-ended l a table q e t w c h =
+    let m = step l (token a table q) .after in
+    let n : some (isToken (w .token)) (records m) ≡ false = rw c (no-token l a table q e) in
+    comes m (resource t w) NoToken h (ap not n)
+
 -- ---- the bound key, and the clock
 
 bound-key : (l : List ℕ) (t : ℕ) (q : ResourceRequest) → comesTo KeyDiffers (resourceChecks l t q (tokenPlace l q)) ≡ true
@@ -121,13 +205,21 @@ unfolding resourceChecks
 bound-key l t q e n =
     comes l (resource t q) KeyDiffers e (ap not (differ-of (boundKey (rec l (tokenPlace l q))) (q .presented) n))
 
-clock-kept : (l : List ℕ) (c : Call) → answers (l, c) ≢ done → step l c .after ≡ l
+clock-kept : (l : List ℕ) (c : Call) → answers (l, c) ≢ done → answers (l, c) ≢ 15 → step l c .after ≡ l
 unfolding step
-clock-kept l (push t table p) n = push-unchanged l t table p n
-clock-kept l (decide t d out) n = decide-unchanged l t d out n .0
-clock-kept l (token t table q) n = token-unchanged l t table q n
-clock-kept l (resource t q) n = resource-unchanged l t q n
-clock-kept l (sweep t) n = sweep-unchanged l t n
+clock-kept l (push t table p) n m = push-unchanged l t table p n
+clock-kept l (decide t d out) n m = decide-unchanged l t d out n .0
+clock-kept l (token t table q) n m = token-unchanged l t table q n m
+clock-kept l (resource t q) n m = resource-unchanged l t q n
+clock-kept l (sweep t) n m = sweep-unchanged l t n
 
 pub reminders : Reminders
-reminders = record { other-client = other-client; second-use = second-use; bound-key = bound-key; clock-kept = clock-kept }
+reminders =
+    record {
+      other-client = other-client;
+      second-use = second-use;
+      third-use = third-use;
+      token-ended = token-ended;
+      bound-key = bound-key;
+      clock-kept = clock-kept;
+    }

@@ -1,4 +1,4 @@
--- What each accepted call leaves: the record, the other records, the head, the answer and the output.
+-- What each accepted call and a second use of a code leave: the record, the other records, the head, the answer and the output.
 use Prim.Native.Nat.{ℕ, _+_, _-_, _≤_, _<_}
 use native.Mathlib.Omega.{arith}
 use native.Mathlib.Nat.{le-refl}
@@ -8,7 +8,7 @@ use mathlib.Core.Bool.{Bool, true, false, not, _&&_, cond, true≢false, and-fal
 use mathlib.Core.List.{List, [], _∷_, _++_, append-assoc}
 use lib.ListN.{length, take, drop, length-take, length-drop, take-append-drop}
 use lib.Dec.{ltb}
-use borrow.Author.Tests.{eq-eqb, ne-eqb, ltb-false, le-leb, lt-leb}
+use borrow.Author.Tests.{eq-eqb, ne-eqb, ltb-false, le-leb, lt-leb, eqb-false}
 use Rattle.octets.specs.Lists.{some, place}
 use Rattle.octets.specs.Numbers.{digits}
 use Rattle.octets.specs.Parts.{blank, zeros}
@@ -40,7 +40,7 @@ use Rattle.clients.specs.Fields.{idSpan}
 use Rattle.clients.specs.Known.{placeOf}
 use Rattle.clients.proofs.Entries.{field-length}
 use Rattle.desk.specs.Limits.{outputLeast}
-use Rattle.desk.specs.Answers.{done}
+use Rattle.desk.specs.Answers.{done, numberOf}
 use Rattle.desk.specs.Requests.{PushRequest, DecideRequest, TokenRequest, ResourceRequest, PendingRequest}
 use Rattle.desk.specs.Start.{emptyLedger}
 use Rattle.desk.specs.Push.{pushRecord, pushAt, clientRecord}
@@ -50,14 +50,15 @@ use Rattle.desk.specs.Resource.{tokenPlace}
 use Rattle.desk.specs.Introspect.{textFor, introspectWith}
 use Rattle.call_laws.specs.Conditions.{StandsAt}
 use Rattle.desk.proofs.Turns.{number-refused}
-use Rattle.call_laws.proofs.Rows.{push-cases, decide-cases, token-cases, resource-cases, sweep-cases, introspect-cases, pending-cases}
-use Rattle.call_laws.proofs.Facts.{PushFacts, push-facts, DecideFacts, decide-facts, TokenFacts, token-facts, resource-facts, sweep-facts, introspect-facts, pending-facts}
-use Rattle.call_laws.proofs.Readings.{known-is, free-stands, reference-stands, code-stands, token-stands, text-so}
+use Rattle.call_laws.proofs.Rows.{push-cases, decide-cases, token-cases, resource-cases, sweep-cases, introspect-cases, pending-cases, token-outcomes}
+use Rattle.call_laws.proofs.Facts.{PushFacts, push-facts, DecideFacts, decide-facts, TokenFacts, token-facts, resource-facts, sweep-facts, introspect-facts, pending-facts, SecondUseFacts, second-use-facts}
+use Rattle.call_laws.proofs.Readings.{known-is, free-stands, reference-stands, code-stands, token-stands, text-so, redeemed-stands}
 use Rattle.call_laws.proofs.Alone.{length-pushed, length-consented, length-redeemed, push-next, start-writes, sweep-alone}
 use Rattle.demands.specs.Layout.{clockBytes, nextBytes, eightBytes, valueLong, keyLong}
 use Rattle.demands.specs.Calls.{start, push, decide, token, resource, sweep, introspect, four, three, Left, leaves, pending}
-use Rattle.demands.specs.Afterwards.{Entered, Consenting, Redeeming, AllButOne, told, AfterStart, AfterPush, AfterDecide, AfterToken, AfterResource, AfterSweep, AfterIntrospect, AfterPending}
+use Rattle.demands.specs.Afterwards.{Entered, Consenting, Redeeming, AllButOne, told, AfterStart, AfterPush, AfterDecide, AfterToken, AfterResource, AfterSweep, AfterIntrospect, AfterPending, AfterSecondUse}
 use Rattle.desk.specs.Pending.{pendingPlace, pendingAt}
+use Rattle.desk.specs.declared.answer.Refusal.the-variants.{CodeRedeemed}
 use Rattle.demands.proofs.Written.{entered, consenting, redeeming}
 
 -- ---- the head
@@ -351,6 +352,30 @@ module _ (l : List ℕ) (t : ℕ) (table : List ℕ) (q : TokenRequest) where
         next-stays = one-next t l code-place r (x .inside) (token-record f);
         answer-is = ap told (sym here);
       })
+
+  second-use-place : SecondUseFacts l t table q → StandsAt Redeemed l (q .code) (q .client) code-place
+  second-use-place f =
+      let x = first-in (isCode (q .code) (q .client)) l (f .there) in
+      redeemed-stands l (q .code) (q .client) code-place (x .inside) .0 (x .passes, f .redeemed)
+
+  pub after-second-use : leaves l table (token t q) .number ≡ numberOf CodeRedeemed → AfterSecondUse l t q (leaves l table (token t q))
+  unfolding tokenAt
+  after-second-use =
+      token-outcomes l t table q
+      (λ o. o .answer .number ≡ numberOf CodeRedeemed
+      → AfterSecondUse l t q (record { number = o .answer .number; beside = four (o .answer); ledger = o .ledger; output = [] }))
+      (λ why u n e. absurd (eqb-false (numberOf why) (numberOf CodeRedeemed) n e))
+      (λ u e.
+      let x = second-use-place (second-use-facts l t table q u) in
+      record {
+        k = code-place;
+        place = x;
+        freed = one-here t l code-place free (x .inside) length-free ∙ free-blank;
+        others = one-others t l code-place free (x .inside) length-free;
+        next-stays = one-next t l code-place free (x .inside) length-free;
+        answer-is = refl;
+      })
+      (λ ok e. absurd (number-refused CodeRedeemed (sym e)))
 
 -- ---- resource
 

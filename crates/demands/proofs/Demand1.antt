@@ -5,7 +5,7 @@ use mathlib.Core.Logic.{_≢_, _⊎_, inl, inr, ⊎-elim}
 use mathlib.Core.Bool.{Bool, true, false, true≢false, false≢true}
 use mathlib.Core.List.{List, [], _∷_, _++_}
 use lib.Dec.{eqb}
-use borrow.Author.Tests.{eqb-true}
+use borrow.Author.Tests.{eqb-true, eqb-false}
 use Rattle.octets.specs.Lists.{some}
 use Rattle.octets.specs.Parts.{zeros}
 use Rattle.octets.specs.Plain.{AllZero}
@@ -23,19 +23,17 @@ use Rattle.desk.specs.Token.{tokenAt}
 use Rattle.desk.specs.Pending.{pendingAt}
 use Rattle.desk.specs.Introspect.{introspectWith}
 use Rattle.desk.specs.declared.answer.Refusal.{Refusal}
-use Rattle.desk.specs.declared.answer.Refusal.the-variants.{LedgerUnsound, TimeWrong, TableUnsound}
+use Rattle.desk.specs.declared.answer.Refusal.the-variants.{LedgerUnsound, TimeWrong, TableUnsound, CodeRedeemed}
 use Rattle.call_laws.specs.Conditions.{InTime}
 use Rattle.desk.proofs.Turns.{number-refused}
 use Rattle.call_laws.proofs.Readings.{time-says}
-use Rattle.call_laws.proofs.Rows.{start-numbers, push-numbers, decide-numbers, token-numbers, resource-numbers, sweep-numbers, introspect-numbers, push-cases, decide-cases, token-cases, resource-cases, sweep-cases, introspect-cases}
-use Rattle.call_laws.proofs.Alone.{either-way, start-unchanged, push-unchanged, decide-unchanged, token-unchanged, resource-unchanged, sweep-unchanged, introspect-unchanged}
-use Rattle.demands.specs.Calls.{Start, Call, start, push, decide, token, resource, sweep, introspect, kindOf, lent, four, three, leaves}
-use Rattle.call_laws.proofs.Rows.{pending-numbers, pending-cases}
-use Rattle.call_laws.proofs.Alone.{pending-unchanged}
-use Rattle.demands.specs.Calls.{pending}
-use Rattle.demands.specs.Demand1.{numbers, In, readsTable, Demand1}
+use Rattle.call_laws.proofs.Rows.{start-numbers, push-numbers, decide-numbers, token-numbers, resource-numbers, sweep-numbers, introspect-numbers, push-cases, decide-cases, token-cases, resource-cases, sweep-cases, introspect-cases, pending-numbers, pending-cases}
+use Rattle.call_laws.proofs.Alone.{either-way, start-unchanged, push-unchanged, decide-unchanged, token-unchanged, resource-unchanged, sweep-unchanged, introspect-unchanged, pending-unchanged}
+use Rattle.demands.specs.Calls.{Start, Call, start, push, decide, token, resource, sweep, introspect, kindOf, lent, four, three, leaves, pending}
+use Rattle.demands.specs.Demand1.{numbers, In, readsTable, Demand1, excepted}
 use Rattle.demands.specs.Rows.{Not, Row, _given_, Turn, begins, rows}
 use Rattle.demands.proofs.Rows.{turns}
+use Rattle.demands.proofs.Afterwards.{after-second-use}
 
 -- ---- a number of the call's own list
 
@@ -164,17 +162,22 @@ nothing-beside l table (pending t p out) =
 nothing-beside l table (introspect t v out) =
     introspect-cases l t v out (λ o. o .answer .number ≢ done → AllZero (o .answer .length ∷ [])) (λ why u n. one-zero) (λ ok n. absurd (n refl))
 
--- ---- no lent byte changed
+-- ---- no lent byte changed, but by the exception
 
-lent-stays : (l table : List ℕ) (c : Call) → leaves l table c .number ≢ done → (leaves l table c .ledger ≡ l) × (leaves l table c .output ≡ lent c)
-lent-stays l table start n = (start-unchanged l n, refl)
-lent-stays l table (push t p) n = (push-unchanged l t table p n, refl)
-lent-stays l table (decide t d out) n = decide-unchanged l t d out n
-lent-stays l table (token t q) n = (token-unchanged l t table q n, refl)
-lent-stays l table (resource t q) n = (resource-unchanged l t q n, refl)
-lent-stays l table (sweep t) n = (sweep-unchanged l t n, refl)
-lent-stays l table (pending t p out) n = pending-unchanged l t p out n
-lent-stays l table (introspect t v out) n = introspect-unchanged l t v out n
+lent-stays : (l table : List ℕ) (c : Call) (why : Refusal) → leaves l table c .number ≡ numberOf why → excepted (kindOf c) why ≡ false
+    → (leaves l table c .ledger ≡ l) × (leaves l table c .output ≡ lent c)
+lent-stays l table c why e x = by c e x (λ z. number-refused why (sym e ∙ z))
+  where
+    by : (c : Call) → leaves l table c .number ≡ numberOf why → excepted (kindOf c) why ≡ false → leaves l table c .number ≢ done
+        → (leaves l table c .ledger ≡ l) × (leaves l table c .output ≡ lent c)
+    by start e x n = (start-unchanged l n, refl)
+    by (push t p) e x n = (push-unchanged l t table p n, refl)
+    by (decide t d out) e x n = decide-unchanged l t d out n
+    by (token t q) e x n = (token-unchanged l t table q n (λ z. eqb-false (numberOf why) (numberOf CodeRedeemed) x (sym e ∙ z)), refl)
+    by (resource t q) e x n = (resource-unchanged l t q n, refl)
+    by (sweep t) e x n = (sweep-unchanged l t n, refl)
+    by (pending t p out) e x n = pending-unchanged l t p out n
+    by (introspect t v out) e x n = introspect-unchanged l t v out n
 
 pub demand1 : Demand1
 demand1 =
@@ -184,5 +187,6 @@ demand1 =
       checks-table = table-third;
       reads-no-table = no-table;
       zeros-beside = nothing-beside;
-      leaves-lent = λ l table c why e x. lent-stays l table c (λ z. number-refused why (sym e ∙ z));
+      leaves-lent = lent-stays;
+      second-use-frees = λ l table t q. after-second-use l t table q;
     }

@@ -4,14 +4,12 @@ use mathlib.Core.Logic.{_↔_}
 use mathlib.Core.List.{List}
 use Prim.Native.Nat.{ℕ}
 use Rattle.desk.specs.Answers.{done}
-use Rattle.call_laws.proofs.Accepting.{start-accepted, push-accepted, decide-accepted, token-accepted, resource-accepted, sweep-accepted, introspect-accepted}
-use Rattle.demands.specs.Calls.{Call, start, push, decide, token, resource, sweep, introspect, leaves}
+use Rattle.call_laws.proofs.Accepting.{start-accepted, push-accepted, decide-accepted, token-accepted, resource-accepted, sweep-accepted, introspect-accepted, pending-accepted}
+use Rattle.demands.specs.Calls.{Call, start, push, decide, token, resource, sweep, introspect, leaves, pending}
 use Rattle.demands.specs.Demand2.{Allowed, After, Demand2}
 use Rattle.demands.proofs.Rows.{turns}
-use Rattle.demands.proofs.Afterwards.{after-start, after-push, after-decide, after-token, after-resource, after-sweep, after-introspect}
-use Rattle.call_laws.proofs.Accepting.{pending-accepted}
-use Rattle.demands.specs.Calls.{pending}
-use Rattle.demands.proofs.Afterwards.{after-pending}
+use Rattle.demands.proofs.Afterwards.{after-start, after-push, after-decide, after-token, after-resource, after-sweep, after-introspect, after-pending, after-second-use}
+use Rattle.desk.specs.declared.answer.Refusal.the-variants.{CodeRedeemed}
 
 allowed : (l table : List ℕ) (c : Call) → (leaves l table c .number ≡ done) ↔ Allowed l table c
 allowed l table start = start-accepted l
@@ -34,4 +32,10 @@ after l table (pending t p out) = after-pending l t p out
 after l table (introspect t v out) = after-introspect l t v out
 
 pub demand2 : Demand2
-demand2 = record { accepted = allowed; refused = turns; afterwards = after }
+demand2 =
+    record {
+      accepted = allowed;
+      refused = turns;
+      afterwards = after;
+      second-use = λ l table t q u. after-second-use l t table q (turns l table (token t q) CodeRedeemed .1 u);
+    }

@@ -1,4 +1,5 @@
 -- What an accepted call leaves: the record that it writes, field by field in the order of document 01's table; every other record; the head; the answer; the output.
+-- And what a second use of a code leaves, which is refused by 15.
 use Prim.Native.Nat.{ℕ, _+_, _-_, _≤_, _<_}
 use mathlib.Core.Path.{_≡_}
 use mathlib.Core.Logic.{_≢_, _⊎_}
@@ -129,6 +130,15 @@ pub record AfterToken (l : List ℕ) (t : ℕ) (q : TokenRequest) (a : Left) : T
   pub others : AllButOne t l (a .ledger) k
   pub next-stays : nextBytes (a .ledger) ≡ nextBytes l
   pub answer-is : a .beside ≡ told (rec (a .ledger) k)
+
+-- document 02, Q-3: "When 15 is due, the record now becomes free and the clock becomes now."; "A refusal returns its number with zeros" still
+pub record AfterSecondUse (l : List ℕ) (t : ℕ) (q : TokenRequest) (a : Left) : Type 0 where
+  pub k : ℕ
+  pub place : StandsAt Redeemed l (q .code) (q .client) k
+  pub freed : rec (a .ledger) k ≡ blank recordSize
+  pub others : AllButOne t l (a .ledger) k
+  pub next-stays : nextBytes (a .ledger) ≡ nextBytes l
+  pub answer-is : a .beside ≡ 0 ∷ 0 ∷ 0 ∷ 0 ∷ []
 
 -- "Only the clock changes."
 pub record AfterResource (l : List ℕ) (t : ℕ) (q : ResourceRequest) (a : Left) : Type 0 where

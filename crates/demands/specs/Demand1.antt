@@ -4,14 +4,16 @@ use mathlib.Core.Path.{_≡_}
 use mathlib.Core.Logic.{_≢_, _⊎_}
 use mathlib.Core.Bool.{Bool, true, false}
 use mathlib.Core.List.{List, [], _∷_}
+use lib.Dec.{eqb}
 use Rattle.octets.specs.Plain.{AllZero}
 use Rattle.ledger_laws.specs.Sound.{SoundLedger}
 use Rattle.clients.specs.Plain.{SoundTable}
 use Rattle.desk.specs.Answers.{numberOf, done}
+use Rattle.desk.specs.Requests.{TokenRequest}
 use Rattle.desk.specs.declared.answer.Refusal.{Refusal}
-use Rattle.desk.specs.declared.answer.Refusal.the-variants.{LedgerUnsound, TimeWrong, TableUnsound}
-use Rattle.demands.specs.Calls.{Kind, Start, Push, Decide, Token, Resource, Sweep, Introspect, Call, kindOf, lent, leaves}
-use Rattle.demands.specs.Calls.{Pending}
+use Rattle.desk.specs.declared.answer.Refusal.the-variants.{LedgerUnsound, TimeWrong, TableUnsound, CodeRedeemed}
+use Rattle.demands.specs.Calls.{Kind, Start, Push, Decide, Token, Resource, Sweep, Introspect, Call, kindOf, lent, leaves, Pending, token}
+use Rattle.demands.specs.Afterwards.{AfterSecondUse}
 
 -- the numbers of each call's refusals, in the order of its checks
 abbrev pub numbers : Kind → List ℕ
@@ -29,9 +31,17 @@ abbrev pub In : ℕ → List ℕ → Type 0
 In n [] = ⊥
 In n (x ∷ xs) = (n ≡ x) ⊎ In n xs
 
--- which refusals of which call may change lent bytes: none. Document 02 adds its rows here and nowhere else.
+-- which refusals of which call may change lent bytes: those that document 02 adds, here and nowhere else. Q-3: "Demand 1's rule on refusals gains this one
+-- exception", 15 at token.
 abbrev pub excepted : Kind → Refusal → Bool
-excepted kind why = false
+excepted Start why = false
+excepted Push why = false
+excepted Decide why = false
+excepted Token why = eqb (numberOf why) (numberOf CodeRedeemed)
+excepted Resource why = false
+excepted Sweep why = false
+excepted Pending why = false
+excepted Introspect why = false
 
 -- the calls that read the client table
 abbrev pub readsTable : Kind → Bool
@@ -60,3 +70,6 @@ pub record Demand1 : Type 0 where
   -- "and leaves ledger and output buffer unchanged"
   pub leaves-lent : (l table : List ℕ) (c : Call) (why : Refusal) → leaves l table c .number ≡ numberOf why → excepted (kindOf c) why ≡ false
       → (leaves l table c .ledger ≡ l) × (leaves l table c .output ≡ lent c)
+  -- document 02, Q-3: what the excepted refusal writes: the record of the code becomes free, the clock becomes now, and every other byte stays
+  pub second-use-frees : (l table : List ℕ) (t : ℕ) (q : TokenRequest) → leaves l table (token t q) .number ≡ numberOf CodeRedeemed
+      → AfterSecondUse l t q (leaves l table (token t q))

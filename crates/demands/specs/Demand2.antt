@@ -4,14 +4,13 @@ use mathlib.Core.Path.{_≡_}
 use mathlib.Core.Logic.{_↔_}
 use mathlib.Core.List.{List}
 use Rattle.desk.specs.Answers.{numberOf, done}
+use Rattle.desk.specs.Requests.{TokenRequest}
 use Rattle.desk.specs.declared.answer.Refusal.{Refusal}
-use Rattle.call_laws.specs.Accepted.{StartAccepted, PushAccepted, DecideAccepted, TokenAccepted, ResourceAccepted, SweepAccepted, IntrospectAccepted}
-use Rattle.demands.specs.Calls.{Call, start, push, decide, token, resource, sweep, introspect, Left, leaves}
+use Rattle.call_laws.specs.Accepted.{StartAccepted, PushAccepted, DecideAccepted, TokenAccepted, ResourceAccepted, SweepAccepted, IntrospectAccepted, PendingAccepted}
+use Rattle.demands.specs.Calls.{Call, start, push, decide, token, resource, sweep, introspect, Left, leaves, pending}
 use Rattle.demands.specs.Rows.{Turn, rows}
-use Rattle.demands.specs.Afterwards.{AfterStart, AfterPush, AfterDecide, AfterToken, AfterResource, AfterSweep, AfterIntrospect}
-use Rattle.call_laws.specs.Accepted.{PendingAccepted}
-use Rattle.demands.specs.Calls.{pending}
-use Rattle.demands.specs.Afterwards.{AfterPending}
+use Rattle.demands.specs.Afterwards.{AfterStart, AfterPush, AfterDecide, AfterToken, AfterResource, AfterSweep, AfterIntrospect, AfterPending, AfterSecondUse}
+use Rattle.desk.specs.declared.answer.Refusal.the-variants.{CodeRedeemed}
 
 -- what "document 01" asks of a call, in plain words
 abbrev pub Allowed : List ℕ → List ℕ → Call → Type 0
@@ -42,3 +41,5 @@ pub record Demand2 : Type 0 where
   pub refused : (l table : List ℕ) (c : Call) (why : Refusal) → (leaves l table c .number ≡ numberOf why) ↔ Turn why (rows l table c)
   -- "The answer and the ledger afterwards are the ones written there."
   pub afterwards : (l table : List ℕ) (c : Call) → leaves l table c .number ≡ done → After l table c (leaves l table c)
+  -- document 02, Q-3: "When 15 is due, the record now becomes free and the clock becomes now."
+  pub second-use : (l table : List ℕ) (t : ℕ) (q : TokenRequest) → Turn CodeRedeemed (rows l table (token t q)) → AfterSecondUse l t q (leaves l table (token t q))

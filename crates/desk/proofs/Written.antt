@@ -7,14 +7,14 @@ use mathlib.Core.List.{List}
 use lib.Dec.{eqb, ltb}
 use borrow.Author.Tests.{leb-false, eqb-false}
 use lib.ListN.{length}
-use Rattle.octets.specs.Parts.{part, splice}
+use Rattle.octets.specs.Parts.{part, splice, blank}
 use Rattle.octets.proofs.Lists.{place-lt}
 use Rattle.ledger.specs.Limits.{recordSize, codeLifetime, tokenLifetime, lastNumber}
 use Rattle.ledger.specs.Fields.{address, rec, slots, records, clock, nextNumber, grant, redirectLength, withRecord, withNext, withClock}
 use Rattle.ledger.specs.Checks.{untimely, found}
 use Rattle.ledger.specs.Write.{pushed, consented, redeemed, free}
 use Rattle.ledger.specs.declared.find.Found.the-variants.{At}
-use Rattle.ledger.proofs.Records.{length-records, lent-out, lent-back}
+use Rattle.ledger.proofs.Records.{length-records, rec-length, lent-out, lent-back}
 use Rattle.ledger.proofs.Tests.{found-told, found-place}
 use Rattle.clients.specs.Fields.{permitted}
 use Rattle.ledger.specs.Sweep.{freed, swept}
@@ -24,7 +24,7 @@ use Rattle.desk.specs.Requests.{PushRequest, DecideRequest, TokenRequest
 use Rattle.desk.specs.Outcome.{Outcome, left, leftWith}
 use Rattle.desk.specs.Push.{clientRecord, grantedBits, lifetime, freePlace, entered, pushAt, pushRecord}
 use Rattle.desk.specs.Decide.{referencePlace, handedOut, consentRecord, consentAt, declineAt, decideAt}
-use Rattle.desk.specs.Token.{codePlace, tokenRecord, rewritten, tokenAt}
+use Rattle.desk.specs.Token.{codePlace, tokenRecord, rewritten, tokenAt, ended}
 use Rattle.desk.specs.Pending.{pendingAt}
 use Rattle.desk.specs.declared.answer.Answer.{Answer}
 use Rattle.desk.specs.declared.answer.Decided.{Decided}
@@ -101,6 +101,13 @@ module _ (l : List ℕ) (t k a : ℕ) (inside : k < slots l) (short : length l <
       let e1 : x ≡ redeemed until new key (rec l k) = hx ∙ rw lent-is in
       let e2 : z ≡ withClock t (withRecord l k x) = hz ∙ ap (withClock t) (back-is x) in
       rw (e2, ha, e1)
+
+  -- the record cleared
+  pub end-written : (x z : List ℕ) → x ≡ blank (length lent) → z ≡ withClock t (back x) → z ≡ ended l t k
+  unfolding free
+  end-written x z hx hz =
+      let n : length lent ≡ recordSize = ap length lent-is ∙ rec-length l k inside in
+      hz ∙ ap (withClock t) (back-is x ∙ ap (withRecord l k) (hx ∙ ap blank n))
 
 -- what is written at the place found is what the definition says
 pub push-at : (l : List ℕ) (t : ℕ) (table : List ℕ) (p : PushRequest) (k bits number until : ℕ) → freePlace l ≡ k

@@ -1,7 +1,8 @@
 -- "Token (client id, authentication key, presented key, code, verifier, fresh value): 3, 4, 13, 5, then 14 or 15, 11, 16, 7."
 use Prim.Native.Nat.{ℕ, _+_}
-use mathlib.Core.Bool.{not}
+use mathlib.Core.Bool.{not, cond}
 use mathlib.Core.List.{List, [], _∷_}
+use lib.Dec.{eqb}
 use Rattle.octets.specs.Lists.{some, place}
 use Rattle.octets.specs.Parts.{zeros}
 use Rattle.forms.specs.Forms.{verifierFormed}
@@ -9,11 +10,11 @@ use Rattle.s256.specs.Rule.{matches}
 use Rattle.ledger.specs.Limits.{tokenLifetime}
 use Rattle.ledger.specs.Fields.{records, rec, inState, challenge, withRecord, withClock}
 use Rattle.ledger.specs.Checks.{isCode, expired, taken}
-use Rattle.ledger.specs.Write.{redeemed}
+use Rattle.ledger.specs.Write.{redeemed, free}
 use Rattle.ledger.specs.declared.state.State.the-variants.{Redeemed}
 use Rattle.clients.specs.Sound.{sound as tableSound}
 use Rattle.clients.specs.Known.{isKnown}
-use Rattle.desk.specs.Answers.{answerOf, refused}
+use Rattle.desk.specs.Answers.{answerOf, numberOf, refused}
 use Rattle.desk.specs.Checks.{Check, _when_, first, begins}
 use Rattle.desk.specs.Outcome.{Outcome, left, concludes}
 use Rattle.desk.specs.Requests.{TokenRequest}
@@ -61,9 +62,14 @@ rewritten l t k r = left (answerOf r) (withClock t (withRecord l k r))
 unfoldable pub tokenAt : List ℕ → ℕ → TokenRequest → ℕ → Outcome Answer
 tokenAt l t q k = rewritten l t k (tokenRecord t q (rec l k))
 
--- each row: "A refusal has zeros beside its number and changes no lent byte, clock included."
-abbrev pub tokenLeaves : List ℕ → Refusal → Outcome Answer
-tokenLeaves l why = left (refused why) l
+-- document 02, Q-3, "A code shown twice ends its token": "When 15 is due, the record now becomes free and the clock becomes now."
+abbrev pub ended : List ℕ → ℕ → ℕ → List ℕ
+ended l t k = withClock t (withRecord l k free)
+
+-- each row: "A refusal has zeros beside its number and changes no lent byte, clock included"; but 15, which ends what stands at the place k
+abbrev pub tokenLeaves : List ℕ → ℕ → ℕ → Refusal → Outcome Answer
+tokenLeaves l t k why = left (refused why) (cond (eqb (numberOf why) (numberOf CodeRedeemed)) (ended l t k) l)
 
 unfoldable pub token : List ℕ → ℕ → List ℕ → TokenRequest → Outcome Answer
-token l t table q = concludes (first (tokenChecks l t table q (codePlace l q))) (tokenLeaves l) (tokenAt l t q (codePlace l q))
+token l t table q =
+    concludes (first (tokenChecks l t table q (codePlace l q))) (tokenLeaves l t (codePlace l q)) (tokenAt l t q (codePlace l q))

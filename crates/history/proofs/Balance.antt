@@ -16,16 +16,18 @@ use Rattle.ledger_laws.proofs.Replaced.{free-state}
 use Rattle.ledger.specs.declared.state.State.the-variants.{Consented}
 use Rattle.desk.specs.Push.{pushAt}
 use Rattle.desk.specs.Decide.{referencePlace, consentAt, declineAt}
-use Rattle.desk.specs.Token.{codePlace, tokenAt}
+use Rattle.desk.specs.Requests.{TokenRequest}
+use Rattle.desk.specs.Token.{codePlace, tokenChecks, tokenAt, ended}
 use Rattle.desk.specs.declared.answer.Refusal.{Refusal}
+use Rattle.desk.specs.declared.answer.Refusal.the-variants.{CodeRedeemed}
 use Rattle.history.specs.Runs.{Call, push, decide, token, resource, sweep, Typed, Step, step}
-use Rattle.history.specs.Events.{EventKind, Consent, Token, Drop, SecondUse, Event, ofRecord, dropped, eventsOf, is}
+use Rattle.history.specs.Events.{EventKind, Consent, Token, Drop, Event, ofRecord, dropped, eventsOf, is}
 use Rattle.history.specs.Counts.{Whose, such, counted, consents, tokens, drops, waits, waiting}
-use Rattle.desk.proofs.Turns.{Passed}
-use Rattle.history.proofs.Steps.{checksOf, refusal, acceptance, left, step-cases, decide-branch}
+use Rattle.desk.proofs.Turns.{Passed, Turn}
+use Rattle.history.proofs.Steps.{checksOf, secondUse, refusal, ending, acceptance, left, step-cases, decide-branch}
 use Rattle.history.proofs.Events.{count-none, count-provided, dropped-none, standing, refused-none, consent-events, decline-events}
-use Rattle.call_laws.proofs.Facts.{push-facts, decide-facts, token-facts, resource-facts, sweep-facts}
-use Rattle.history.proofs.Effects.{Wrote, pushPlace, pushOne, pushes, consentOne, consents as consented, declines, tokenOne, redeems, ticks, sweeps}
+use Rattle.call_laws.proofs.Facts.{push-facts, decide-facts, token-facts, second-use-facts, resource-facts, sweep-facts}
+use Rattle.history.proofs.Effects.{Wrote, pushPlace, pushOne, pushes, consentOne, consents as consented, declines, tokenOne, redeems, ends, ticks, sweeps}
 use Rattle.history.proofs.Runs.{Good}
 
 -- one record replaced
@@ -57,15 +59,22 @@ module _ (whose : Whose) where
   Even l s = consents whose (eventsOf s) + waiting whose l ≡ tokens whose (eventsOf s) + drops whose (eventsOf s) + waiting whose (s .after)
 
   -- no event of a refused step is counted, and of a sweep's none but the drops
-  uncounted : (k : EventKind) (l : List ℕ) (c : Call) (why : Refusal) → ((r : List ℕ) → is k (ofRecord SecondUse r c) ≡ false)
-      → counted whose k (eventsOf (refusal l c why)) ≡ 0
-  uncounted k l c why h = count-none (such whose k) (eventsOf (refusal l c why)) (refused-none (such whose k) l c why (λ r. rw (h r)))
+  uncounted : (k : EventKind) (l : List ℕ) (c : Call) (why : Refusal) → secondUse c why ≡ false → counted whose k (eventsOf (refusal l c why)) ≡ 0
+  uncounted k l c why h = count-none (such whose k) (eventsOf (refusal l c why)) (refused-none (such whose k) l c why h)
 
   undropped : (k : EventKind) (c : Call) (rs ss : List (List ℕ)) → ((r : List ℕ) → is k (ofRecord Drop r c) ≡ false) → counted whose k (dropped c rs ss) ≡ 0
   undropped k c rs ss h = count-none (such whose k) (dropped c rs ss) (dropped-none (such whose k) c (λ r. rw (h r)) rs ss)
 
-  even-refused : (l : List ℕ) (c : Call) (why : Refusal) → Even l (refusal l c why)
-  even-refused l c why = omega (arith, uncounted Consent l c why (λ r. refl), uncounted Token l c why (λ r. refl), uncounted Drop l c why (λ r. refl))
+  even-refused : (l : List ℕ) (c : Call) (why : Refusal) → secondUse c why ≡ false → Even l (refusal l c why)
+  even-refused l c why h = omega (arith, uncounted Consent l c why h, uncounted Token l c why h, uncounted Drop l c why h)
+
+  -- a second use frees a record in state 3: no consent, no token, no drop, and no code that waited
+  even-ended : (l : List ℕ) (t : ℕ) (table : List ℕ) (q : TokenRequest) → Turn CodeRedeemed (tokenChecks l t table q (codePlace l q))
+      → Even l (ending l t table q)
+  even-ended l t table q u =
+      let e = ends l t table q (second-use-facts l t table q u) in
+      let k = codePlace l q in
+      omega (arith, replaced (waits whose) l t (nextNumber l) k free (ended l t k) (e .wrote), waits-out (rec l k) 3 (e .was) refl, waits-out free 0 free-state refl)
 
   even-done : (l : List ℕ) (c : Call) → Octets l → Typed c → Passed (checksOf l c) → Even l (acceptance l c)
   unfolding pushAt consentAt declineAt tokenAt
@@ -136,7 +145,7 @@ module _ (whose : Whose) where
       ))
 
   pub even : (l : List ℕ) (c : Call) → Octets l → Typed c → Even l (step l c)
-  even l c o y = step-cases (Even l) l c (λ why u. even-refused l c why) (even-done l c o y)
+  even l c o y = step-cases (Even l) l c (λ why u n. even-refused l c why n) (even-ended l) (even-done l c o y)
 
   -- the balance of a ledger with the events that led to it
   abbrev pub Balanced : List ℕ → List Event → Type 0

@@ -2,24 +2,30 @@
 use Prim.Native.Nat.{ℕ, suc, _≤_}
 use native.Mathlib.Omega.{arith}
 use mathlib.Core.Path.{_≡_, refl, sym, ap, _∙_}
+use mathlib.Core.Logic.{_≢_}
 use mathlib.Core.Bool.{Bool, true, false}
 use mathlib.Core.List.{List, [], _∷_}
 use lib.ListN.{getD}
 use Rattle.octets.specs.Lists.{bit, count, some}
-use Rattle.ledger.specs.Fields.{records}
+use Rattle.ledger.specs.Fields.{rec, records, grant}
 use Rattle.ledger.specs.Sound.{sound}
 use Rattle.desk.specs.Requests.{PushRequest, DecideRequest, TokenRequest}
-use Rattle.history.specs.Runs.{Call, push, decide, token, AllTyped, started, lastIn}
-use Rattle.history.specs.Events.{Event, eventsIn}
+use Rattle.history.specs.Runs.{Call, push, decide, token, Typed, AllTyped, step, numberIn, started, steps, lastIn}
+use Rattle.history.specs.Events.{Event, events, eventsIn}
 use Rattle.history.specs.Counts.{Whose, just, anyone, consents, tokens, waits, waiting}
 use Rattle.history.specs.Histories.{history, numbersOf, Granted, Chain}
 use Rattle.history.specs.Demand3.{Demand3, EveryRun}
+use Rattle.desk.specs.Answers.{numberOf}
+use Rattle.desk.specs.Token.{codePlace}
+use Rattle.desk.specs.declared.answer.Refusal.the-variants.{CodeRedeemed}
 use Rattle.history.proofs.Steps.{never-one}
-use Rattle.history.proofs.Runs.{Good, good-last, good-start, along}
+use Rattle.history.proofs.Runs.{Good, good-step, good-last, good-start, along}
 use Rattle.history.proofs.Balance.{Balanced, balanced-step}
 use Rattle.history.proofs.Numbers.{Numbered, numbered-step, numbered-start}
 use Rattle.history.proofs.Invariant.{started-at, inv-start}
 use Rattle.history.proofs.Readings.{Kept, kept-step, kept-start, odd, odd-step, token-before, told, value-closed}
+use Rattle.history.proofs.SecondUses.{Single, single-step, single-start}
+use Rattle.history.proofs.Ended.{Unread, unread-step, ended-unread}
 
 -- ---- nothing waits at the start
 
@@ -70,6 +76,18 @@ module _ (n : ℕ) (good : Good (started n)) where
       let h : x .redeemed ≡ y .redeemed = same-token _ _ _ _ _ _ _ _ _ _ _ _ _ _ _ _ _ _ _ (x .order) (e ∙ y .order) in
       (ap (λ (q : TokenRequest). q .client) h, x .key ∙ ap (λ (q : TokenRequest). q .presented) h ∙ sym (y .key))
 
+  single-run : (cs : List Call) → AllTyped cs → Single (lastIn n cs) (eventsIn n cs)
+  single-run cs y = along Single single-step cs (started n) [] good y (single-start (started n) (started-at n))
+
+  end-run : (cs : List Call) → AllTyped cs → (t : ℕ) (table : List ℕ) (q : TokenRequest) → Typed (token t table q)
+      → numberIn (step (lastIn n cs) (token t table q) .answer) ≡ numberOf CodeRedeemed
+      → (ds : List Call) → AllTyped ds → (r : Granted (events (steps (step (lastIn n cs) (token t table q) .after) ds)))
+      → r .grant ≢ grant (rec (lastIn n cs) (codePlace (lastIn n cs) q))
+  end-run cs y t table q z e ds w =
+      let l = lastIn n cs in
+      let g = good-step l (token t table q) (good-last cs (started n) good y) z in
+      along (Unread (grant (rec l (codePlace l q)))) (unread-step (grant (rec l (codePlace l q)))) ds (step l (token t table q) .after) [] g w (ended-unread l t table q e) .unread
+
   all-of-it : Demand3 n
   all-of-it =
       record {
@@ -77,6 +95,8 @@ module _ (n : ℕ) (good : Good (started n)) where
         permissions = λ cs y k h. tokens-most (just k h) cs y;
         permissions-all = tokens-most anyone;
         readings = λ cs y. kept-run cs y .chains;
+        no-second-use = λ cs y. single-run cs y .unrepeated;
+        ends = end-run;
         reading-told = told (started n);
         stays = λ cs y. kept-run cs y .standing;
         in-time = λ cs y. kept-run cs y .inv .life;

@@ -49,7 +49,7 @@ use Rattle.ledger_laws.proofs.Slots.{slotOf, pushedSlot, consentedSlot, redeeme
 use Rattle.ledger_laws.proofs.Written.{Wrote as Leaves, pushed-wrote, consented-wrote, redeemed-wrote}
 use Rattle.ledger.proofs.Swept.{length-free, rec-swept, slots-swept}
 use Rattle.ledger_laws.proofs.Says.{neither, of-sound}
-use Rattle.ledger_laws.proofs.Searches.{First, first-in}
+use Rattle.ledger_laws.proofs.Searches.{First, first-in, code-says}
 use Rattle.ledger_laws.proofs.Heads.{records-clock, next-clock, clock-is, length-next, records-next, next-is, next-with, next-left}
 use Rattle.ledger_laws.proofs.Kept.{head-swept, length-sweep}
 use Rattle.clients.specs.Limits.{profileReference}
@@ -57,10 +57,10 @@ use Rattle.desk.specs.Checks.{scopeFits, within}
 use Rattle.desk.specs.Requests.{PushRequest, DecideRequest, TokenRequest, ResourceRequest}
 use Rattle.desk.specs.Push.{lifetime, pushRecord, pushAt}
 use Rattle.desk.specs.Decide.{referencePlace, consentRecord, consentAt, declineAt}
-use Rattle.desk.specs.Token.{codePlace, tokenRecord, tokenAt}
+use Rattle.desk.specs.Token.{codePlace, tokenRecord, tokenAt, ended}
 use Rattle.desk.specs.Resource.{tokenPlace}
 use Rattle.history.specs.Runs.{TypedPush, TypedDecide, TypedToken}
-use Rattle.call_laws.proofs.Facts.{PushFacts, DecideFacts, TokenFacts, ResourceFacts}
+use Rattle.call_laws.proofs.Facts.{PushFacts, DecideFacts, TokenFacts, ResourceFacts, SecondUseFacts}
 use Rattle.call_laws.proofs.Profile.{lives-under}
 
 -- ---- what checks 1 and 2 say
@@ -270,6 +270,7 @@ pub record Redeems (l : List ℕ) (t : ℕ) (q : TokenRequest) (k : ℕ) (s m : 
   pub scope-is : scope s ≡ scope (rec l k)
   pub challenge-is : challenge s ≡ challenge (rec l k)
   pub holder-is : holder s ≡ holder (rec l k)
+  pub code-is : value s ≡ q .code
   pub token-is : token s ≡ q .fresh
   pub key-is : boundKey s ≡ q .presented
   pub expiry-is : expiry s ≡ t + tokenLifetime
@@ -326,10 +327,28 @@ module _ (l : List ℕ) (t : ℕ) (table : List ℕ) (q : TokenRequest) (y : Typ
         scope-is = a .scope-is;
         challenge-is = a .challenge-is;
         holder-is = a .holder-is;
+        code-is = a .value-is ∙ code-says (q .code) (q .client) (rec l tokenAtPlace) .0 (token-found .passes) .1 .0;
         token-is = a .token-is;
         key-is = a .key-is;
         expiry-is = a .expiry-is;
       }
+
+-- ---- a second use of a code: its record is freed
+
+pub record Ends (l : List ℕ) (t : ℕ) (q : TokenRequest) (k : ℕ) (m : List ℕ) : Type 0 where
+  pub wrote : Wrote l t (nextNumber l) k free m
+  pub was : state (rec l k) ≡ 3
+  pub shown : value (rec l k) ≡ q .code
+
+pub ends : (l : List ℕ) (t : ℕ) (table : List ℕ) (q : TokenRequest) → SecondUseFacts l t table q → Ends l t q (codePlace l q) (ended l t (codePlace l q))
+ends l t table q f =
+    let k = codePlace l q in
+    let a = first-in (isCode (q .code) (q .client)) l (f .there) in
+    record {
+      wrote = wrote l t k free (f .ledger-sound) (f .in-time) (a .inside) length-free;
+      was = eqb-true (state (rec l k)) 3 (f .redeemed);
+      shown = code-says (q .code) (q .client) (rec l k) .0 (a .passes) .1 .0;
+    }
 
 -- ---- resource: only the clock changes
 

@@ -10,14 +10,12 @@ use borrow.Author.Tests.{eqb-true}
 use Rattle.octets.specs.Lists.{bit, some, count}
 use Rattle.ledger.specs.Fields.{rec, records, state, inState, grant}
 use Rattle.ledger.specs.declared.state.State.the-variants.{Free, Consented}
-use Rattle.desk.specs.Answers.{numberOf}
 use Rattle.desk.specs.Requests.{DecideRequest}
 use Rattle.desk.specs.Decide.{referencePlace, consentRecord, consentAt, declineAt}
-use Rattle.desk.specs.Token.{codePlace}
 use Rattle.desk.specs.declared.answer.Refusal.{Refusal}
 use Rattle.history.specs.Runs.{Call, push, decide, token, resource, sweep}
-use Rattle.history.specs.Events.{Consent, No, Drop, SecondUse, Event, event, ofRecord, provided, dropped, eventsOf, listed}
-use Rattle.history.proofs.Steps.{refusal, refused-not, consenting, declining, deciding}
+use Rattle.history.specs.Events.{Consent, No, Drop, Event, event, ofRecord, provided, dropped, eventsOf, listed}
+use Rattle.history.proofs.Steps.{secondUse, refusal, refused-not, consenting, declining, deciding}
 
 -- ---- lists
 
@@ -122,12 +120,11 @@ pub dropped-same : (c : Call) (rs : List (List ℕ)) → dropped c rs rs ≡ []
 dropped-same c [] = refl
 dropped-same c (r ∷ rs) = rw (standing r) (dropped-same c rs)
 
--- a refused step has no event, but perhaps a second use
-pub refused-none : (q : Event → Bool) (l : List ℕ) (c : Call) (why : Refusal) → ((r : List ℕ) → q (ofRecord SecondUse r c) ≡ false)
-    → some q (eventsOf (refusal l c why)) ≡ false
+-- a refused step that is no second use has no event
+pub refused-none : (q : Event → Bool) (l : List ℕ) (c : Call) (why : Refusal) → secondUse c why ≡ false → some q (eventsOf (refusal l c why)) ≡ false
 refused-none q l (push t table p) why h = rw (refused-not why)
 refused-none q l (decide t d out) why h = rw (refused-not why)
-refused-none q l (token t table p) why h = rw (refused-not why) (some-provided q (eqb (numberOf why) 15) (ofRecord SecondUse (rec l (codePlace l p)) (token t table p)) (h (rec l (codePlace l p))))
+refused-none q l (token t table p) why h = rw (refused-not why, h)
 refused-none q l (resource t p) why h = rw (refused-not why)
 refused-none q l (sweep t) why h = rw (dropped-same (sweep t) (records l))
 

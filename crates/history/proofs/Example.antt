@@ -116,7 +116,7 @@ example =
     record {
       opening-typed = (
         typed-push 100 (lit≤ tt),
-        (typed-decide 110 (lit≤ tt), (typed-token 120 (lit≤ tt), (typed-resource 130 (lit≤ tt), (typed-token 140 (lit≤ tt), tt)))),
+        (typed-decide 110 (lit≤ tt), (typed-token 120 (lit≤ tt), (typed-resource 130 (lit≤ tt), (typed-token 140 (lit≤ tt), (typed-resource 150 (lit≤ tt), tt))))),
       );
       opening-events = refl;
       granted = record {

@@ -25,13 +25,13 @@ use Rattle.ledger_laws.proofs.Heads.{rec-next}
 use Rattle.desk.specs.Start.{emptyLedger}
 use Rattle.desk.specs.Push.{pushAt}
 use Rattle.desk.specs.Requests.{PushRequest, DecideRequest, TokenRequest}
-use Rattle.desk.specs.Token.{tokenAt}
+use Rattle.desk.specs.Token.{codePlace, tokenAt, ended}
 use Rattle.history.specs.Runs.{Call, push, decide, token, resource, sweep, Typed, Step, step, started}
 use Rattle.history.specs.Events.{Push, Consent, No, Token, Event, event, eventsOf, listed}
 use Rattle.history.specs.Histories.{concerns, history, DecidedInTime, unborn, asked, decided, redeemed}
 use Rattle.desk.proofs.Turns.{Passed}
-use Rattle.call_laws.proofs.Facts.{push-facts, decide-facts, token-facts, resource-facts, sweep-facts}
-use Rattle.history.proofs.Steps.{checksOf, refusal, acceptance, left, step-cases, decide-branch}
+use Rattle.call_laws.proofs.Facts.{push-facts, decide-facts, token-facts, second-use-facts, resource-facts, sweep-facts}
+use Rattle.history.proofs.Steps.{checksOf, refusal, ending, acceptance, left, step-cases, decide-branch}
 use Rattle.history.proofs.Events.{dropped-none, refused-none, consent-events, decline-events}
 use Rattle.history.proofs.Effects.{
   Wrote,
@@ -43,6 +43,8 @@ use Rattle.history.proofs.Effects.{
   declines,
   Redeems,
   redeems,
+  Ends,
+  ends,
   since,
   ticks,
   sweeps,
@@ -61,6 +63,7 @@ use Rattle.history.proofs.Links.{
   Tied,
   tied-free,
   history-in,
+  written,
   nowOf,
   Inv,
   idle,
@@ -269,6 +272,17 @@ module _ (l : List ℕ) (t : ℕ) (table : List ℕ) (q : TokenRequest) (k : ℕ
       token-tied
       (rw (by, token-calls) (redeemed (z .t) (z .table) (z .p) (y .t) (y .d) (y .out) t table q refl (y .yes) (y .soon) (token-after, token-soon)))
 
+-- ---- a second use of a code
+
+inv-ended : (l : List ℕ) (t : ℕ) (table : List ℕ) (q : TokenRequest) (es : List Event) → Ends l t q (codePlace l q) (ended l t (codePlace l q)) → Inv l es
+    → Inv (ended l t (codePlace l q)) (es ++ eventsOf (ending l t table q))
+inv-ended l t table q es x inv =
+    let c = x .wrote .onward in
+    let d = x .wrote .clock-is in
+    idle l (ended l t (codePlace l q)) es (eventsOf (ending l t table q)) (λ g. refl)
+    (λ j. written l t (nextNumber l) (codePlace l q) free (ended l t (codePlace l q)) (x .wrote) (Tied es) (tied-free es free free-state) j (λ ne. inv .tied j))
+    (x .wrote .next-is) (omega arith) inv
+
 -- ---- sweep
 
 swept-tied : (t : ℕ) (es : List Event) (r : List ℕ) → Tied es r → Tied es (sweptRecord t r)
@@ -305,7 +319,8 @@ inv-done l (sweep t) es o y ok inv =
 pub inv-step : (l : List ℕ) (es : List Event) (c : Call) → Good l → Typed c → Inv l es → Inv (step l c .after) (es ++ eventsOf (step l c))
 inv-step l es c good y inv =
     step-cases (λ (s : Step). Inv (s .after) (es ++ eventsOf s)) l c
-    (λ why u. idle l l es (eventsOf (refusal l c why)) (λ g. refused-none (concerns g) l c why (λ r. refl)) (inv .tied) refl (le-refl _) inv)
+    (λ why u n. idle l l es (eventsOf (refusal l c why)) (λ g. refused-none (concerns g) l c why n) (inv .tied) refl (le-refl _) inv)
+    (λ t table q u. inv-ended l t table q es (ends l t table q (second-use-facts l t table q u)) inv)
     (λ ok. inv-done l c es (good .bytes) y ok inv)
 
 -- ---- at the start

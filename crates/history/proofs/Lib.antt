@@ -8,6 +8,8 @@ pub mod Numbers
 pub mod Links
 pub mod Invariant
 pub mod Readings
+pub mod SecondUses
+pub mod Ended
 pub mod Demand3
 pub mod Introspected
 pub mod Begins

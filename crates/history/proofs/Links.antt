@@ -152,6 +152,15 @@ upto-more : (t : ℕ) (h : List Call) (c : Call) → nowOf c ≤ t → Upto t h 
 upto-more t [] c b x = (b, tt)
 upto-more t (d ∷ h) c b x = (x .0, upto-more t h c b (x .1))
 
+-- what holds of the record that was written and of every other holds of all
+pub written : (l : List ℕ) (t next k : ℕ) (s m : List ℕ) → Wrote l t next k s m → (P : List ℕ → Type 0) → P s → (j : ℕ) → (j ≢ k → P (getD (records l) j []))
+    → P (getD (records m) j [])
+written l t next k s m w P new j old = rw (w .records-are) (go (ℕ-discrete j k))
+  where
+    go : Dec (j ≡ k) → P (getD (set (records l) k s) j [])
+    go (yes z) = rw (z, getD-set-same (records l) k s [] (w .inside)) new
+    go (no ne) = rw (getD-set-other (records l) k j s [] ne) (old ne)
+
 -- ---- the invariant
 
 pub record Inv (l : List ℕ) (es : List Event) : Type 0 where

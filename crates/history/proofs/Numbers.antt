@@ -15,13 +15,13 @@ use Rattle.desk.specs.Start.{emptyLedger}
 use Rattle.desk.specs.Push.{pushAt}
 use Rattle.desk.specs.Token.{tokenAt}
 use Rattle.desk.proofs.Turns.{Passed}
-use Rattle.call_laws.proofs.Facts.{push-facts, decide-facts, token-facts, resource-facts, sweep-facts}
+use Rattle.call_laws.proofs.Facts.{push-facts, decide-facts, token-facts, second-use-facts, resource-facts, sweep-facts}
 use Rattle.history.specs.Runs.{Call, push, decide, token, resource, sweep, Typed, Step, step, started}
 use Rattle.history.specs.Events.{Push, Event, event, eventsOf, is, listed}
 use Rattle.history.specs.Histories.{numbersOf}
 use Rattle.history.proofs.Steps.{checksOf, refusal, acceptance, left, step-cases, decide-branch}
 use Rattle.history.proofs.Events.{listed-in, listed-out, dropped-none, refused-none, consent-events, decline-events}
-use Rattle.history.proofs.Effects.{pushes, consents, declines, redeems, ticks, sweeps}
+use Rattle.history.proofs.Effects.{pushes, consents, declines, redeems, ends, ticks, sweeps}
 use Rattle.history.proofs.Runs.{Good}
 
 -- the numbers given so far, and the next
@@ -66,7 +66,8 @@ pub numbered-step : (l : List ℕ) (es : List Event) (c : Call) → Good l → T
     → Numbered (step l c .after) (numbersOf (es ++ eventsOf (step l c)))
 numbered-step l es c g y x =
     step-cases (λ (s : Step). Numbered (s .after) (numbersOf (es ++ eventsOf s))) l c
-    (λ why u. numbered-same l l es (eventsOf (refusal l c why)) (refused-none (is Push) l c why (λ r. refl)) refl x)
+    (λ why u n. numbered-same l l es (eventsOf (refusal l c why)) (refused-none (is Push) l c why n) refl x)
+    (λ t table q u. numbered-same l _ es _ refl (ends l t table q (second-use-facts l t table q u) .wrote .next-is) x)
     (λ ok. numbered-done l c es (g .bytes) y ok x)
 
 pub numbered-start : (n : ℕ) → Numbered (started n) (numbersOf [])

@@ -27,7 +27,7 @@ use Rattle.history.specs.Runs.{Call, push, decide, token, resource, swee
 use Rattle.history.specs.Events.{Push, Consent, No, Token, SecondUse, Reading, Event, event, ofRecord, provided, readerOf, happened, eventsOf, events, rank, is, listed}
 use Rattle.history.specs.Histories.{enters, concerns, history, asToken, issued, Granted, Chain, Life, unborn, asked, decided, redeemed}
 use Rattle.history.specs.Demand3.{reading, stands}
-use Rattle.history.proofs.Steps.{checksOf, acceptance, refusal, step-cases, refused-not}
+use Rattle.history.proofs.Steps.{checksOf, acceptance, refusal, ending, step-cases, refused-not}
 use Rattle.history.proofs.Events.{some-append, InFirst, InSecond, parted, listed-append, some-provided, some-either, dropped-none, refused-none}
 use Rattle.history.proofs.Effects.{Reads, reads}
 use Rattle.history.proofs.Runs.{Good}
@@ -84,6 +84,7 @@ module _ (l : List ℕ) (es : List Event) (t : ℕ) (q : ResourceRequest) (k : �
 pub record ReadHere (l : List ℕ) (t : ℕ) (q : ResourceRequest) (g : ℕ) (before fs : List Event) : Type 0 where
   pub read : Reads l t q (tokenPlace l q)
   pub number : g ≡ grant (rec l (tokenPlace l q))
+  pub first : before ≡ []
   pub before-aside : (f : ℕ) → some (concerns f) before ≡ false
   pub aside : (f : ℕ) → some (concerns f) fs ≡ false
 
@@ -104,7 +105,7 @@ no-decision false = refl
 over : (l : List ℕ) (t u : ℕ) (q w : ResourceRequest) (g : ℕ) → t ≡ u → q ≡ w → grant (rec l (tokenPlace l q)) ≡ g → Reads l t q (tokenPlace l q)
     → (fs : List Event) → ((f : ℕ) → some (concerns f) fs ≡ false) → ReadHere l u w g [] fs
 over l t u q w g e f h x fs a =
-    rw (← e, ← f) (record { read = x; number = sym h; before-aside = λ i. refl; aside = a })
+    rw (← e, ← f) (record { read = x; number = sym h; first = refl; before-aside = λ i. refl; aside = a })
 
 read-done : (l : List ℕ) (c : Call) → Passed (checksOf l c) → (before after : List Event) (id : List ℕ) (who g t : ℕ) (q : ResourceRequest)
     → eventsOf (acceptance l c) ≡ before ++ (event Reading id who g (resource t q) ∷ after)
@@ -130,7 +131,8 @@ pub read-here : (l : List ℕ) (c : Call) (before after : List Event) (id : List
     → eventsOf (step l c) ≡ before ++ (event Reading id who g (resource t q) ∷ after) → ReadHere l t q g before (eventsOf (step l c))
 read-here l c before after id who g t q =
     step-cases (λ (s : Step). eventsOf s ≡ before ++ (event Reading id who g (resource t q) ∷ after) → ReadHere l t q g before (eventsOf s)) l c
-    (λ why u e. absurd (no-reading (eventsOf (refusal l c why)) before id who g (resource t q) after (refused-none (is Reading) l c why (λ r. refl)) e))
+    (λ why u n e. absurd (no-reading (eventsOf (refusal l c why)) before id who g (resource t q) after (refused-none (is Reading) l c why n) e))
+    (λ a table p u e. absurd (no-reading (eventsOf (ending l a table p)) before id who g (resource t q) after refl e))
     (λ ok. read-done l c ok before after id who g t q)
 
 -- ---- it stays: a history of three calls takes no fourth
@@ -326,7 +328,8 @@ not-refused b e f = false≢true (sym e ∙ f)
 granted : (l : List ℕ) (t : ℕ) (q : ResourceRequest) → accepted (reading l t q) ≡ true → Reads l t q (tokenPlace l q)
 granted l t q =
     step-cases (λ (s : Step). accepted (s .answer) ≡ true → Reads l t q (tokenPlace l q)) l (resource t q)
-    (λ why u f. absurd (not-refused _ (refused-not why) f))
+    (λ why u n f. absurd (not-refused _ (refused-not why) f))
+    (λ a table p u f. absurd (false≢true f))
     (λ ok f. reads l t q (resource-facts l t q ok))
 
 pub value-closed : (l : List ℕ) (t : ℕ) (q : ResourceRequest) → stands (q .token) l ≡ true → accepted (reading l t q) ≡ false

@@ -1,4 +1,4 @@
--- A step by cases: it is refused, by a row whose turn has come, or all its checks pass.
+-- A step by cases: it is refused, by a row whose turn has come, or is a second use of a code, or all its checks pass.
 use Prim.Native.Nat.{ℕ}
 use mathlib.Core.Path.{_≡_, refl, ap}
 use mathlib.Core.Logic.{_≢_, ⊎-elim}
@@ -14,20 +14,20 @@ use Rattle.ledger.specs.Sound.{sound}
 use Rattle.ledger.specs.Sweep.{freed, swept as sweptLedger}
 use Rattle.desk.specs.Answers.{answerOf, numberOf, refused, undecided, unswept, sweptOf}
 use Rattle.desk.specs.Checks.{Check}
-use Rattle.desk.specs.Requests.{DecideRequest}
+use Rattle.desk.specs.Requests.{DecideRequest, TokenRequest}
 use Rattle.desk.specs.Outcome.{Outcome}
 use Rattle.desk.specs.Push.{pushChecks, pushAt}
 use Rattle.desk.specs.Decide.{decideChecks, decideAt, referencePlace, consentAt, declineAt}
-use Rattle.desk.specs.Token.{tokenChecks, tokenAt, codePlace}
+use Rattle.desk.specs.Token.{tokenChecks, tokenAt, codePlace, ended}
 use Rattle.desk.specs.Resource.{resourceChecks, tokenPlace}
 use Rattle.desk.specs.Sweep.{sweepChecks}
 use Rattle.desk.specs.declared.answer.Answer.{Answer}
 use Rattle.desk.specs.declared.answer.Decided.{Decided}
 use Rattle.desk.specs.declared.answer.Swept.{Swept}
 use Rattle.desk.specs.declared.answer.Refusal.{Refusal}
-use Rattle.desk.specs.declared.answer.Refusal.the-variants.{LedgerUnsound}
+use Rattle.desk.specs.declared.answer.Refusal.the-variants.{LedgerUnsound, CodeRedeemed}
 use Rattle.desk.proofs.Turns.{Passed, Turn, number-refused}
-use Rattle.call_laws.proofs.Rows.{push-cases, push-turn, decide-cases, decide-turn, token-cases, token-turn, resource-cases, resource-turn, sweep-cases, sweep-turn}
+use Rattle.call_laws.proofs.Rows.{push-cases, push-turn, decide-cases, decide-turn, token-outcomes, token-turn, resource-cases, resource-turn, sweep-cases, sweep-turn}
 use Rattle.desk.proofs.Written.{decide-yes, decide-no}
 use Rattle.history.specs.Runs.{Call, push, decide, token, resource, sweep, Said, answered, decided, swept, Step, made, step, numberIn}
 
@@ -39,7 +39,14 @@ checksOf l (token t table q) = tokenChecks l t table q (codePlace l q)
 checksOf l (resource t q) = resourceChecks l t q (tokenPlace l q)
 checksOf l (sweep t) = sweepChecks l t
 
--- a refused step
+-- a refused step that leaves the ledger as it was: all but a second use of a code
+abbrev pub secondUse : Call → Refusal → Bool
+secondUse (push t table p) why = false
+secondUse (decide t d out) why = false
+secondUse (token t table q) why = eqb (numberOf why) (numberOf CodeRedeemed)
+secondUse (resource t q) why = false
+secondUse (sweep t) why = false
+
 abbrev pub refusedBy : Refusal → Call → Said
 refusedBy why (push t table p) = answered (refused why)
 refusedBy why (decide t d out) = decided (undecided why) out
@@ -49,6 +56,10 @@ refusedBy why (sweep t) = swept (unswept why)
 
 abbrev pub refusal : List ℕ → Call → Refusal → Step
 refusal l c why = made c l (refusedBy why c) l
+
+-- a second use of a code: refused by 15, and its record freed
+abbrev pub ending : List ℕ → ℕ → List ℕ → TokenRequest → Step
+ending l t table q = made (token t table q) l (answered (refused CodeRedeemed)) (ended l t (codePlace l q))
 
 -- an accepted step
 abbrev pub reply : List ℕ → Call → Said
@@ -68,21 +79,23 @@ left l (sweep t) = withClock t (sweptLedger t l)
 abbrev pub acceptance : List ℕ → Call → Step
 acceptance l c = made c l (reply l c) (left l c)
 
--- the one case split: a step refused by the row whose turn has come, or an accepted one whose checks all passed
+-- the one case split: a step refused by the row whose turn has come, a second use of a code, or an accepted one whose checks all passed
 pub step-cases : (P : Step → Type 0) (l : List ℕ) (c : Call)
-    → ((why : Refusal) → Turn why (checksOf l c) → P (refusal l c why))
+    → ((why : Refusal) → Turn why (checksOf l c) → secondUse c why ≡ false → P (refusal l c why))
+    → ((t : ℕ) (table : List ℕ) (q : TokenRequest) → Turn CodeRedeemed (tokenChecks l t table q (codePlace l q)) → P (ending l t table q))
     → (Passed (checksOf l c) → P (acceptance l c))
     → P (step l c)
 unfolding step
-step-cases P l (push t table p) r a =
-    push-cases l t table p (λ (o : Outcome Answer). P (made (push t table p) l (answered (o .answer)) (o .ledger))) r a
-step-cases P l (decide t d out) r a =
-    decide-cases l t d out (λ (o : Outcome Decided). P (made (decide t d out) l (decided (o .answer) (o .output)) (o .ledger))) r a
-step-cases P l (token t table q) r a =
-    token-cases l t table q (λ (o : Outcome Answer). P (made (token t table q) l (answered (o .answer)) (o .ledger))) r a
-step-cases P l (resource t q) r a =
-    resource-cases l t q (λ (o : Outcome Answer). P (made (resource t q) l (answered (o .answer)) (o .ledger))) r a
-step-cases P l (sweep t) r a = sweep-cases l t (λ (o : Outcome Swept). P (made (sweep t) l (swept (o .answer)) (o .ledger))) r a
+step-cases P l (push t table p) r s a =
+    push-cases l t table p (λ (o : Outcome Answer). P (made (push t table p) l (answered (o .answer)) (o .ledger))) (λ why u. r why u refl) a
+step-cases P l (decide t d out) r s a =
+    decide-cases l t d out (λ (o : Outcome Decided). P (made (decide t d out) l (decided (o .answer) (o .output)) (o .ledger))) (λ why u. r why u refl) a
+step-cases P l (token t table q) r s a =
+    token-outcomes l t table q (λ (o : Outcome Answer). P (made (token t table q) l (answered (o .answer)) (o .ledger))) r (s t table q) a
+step-cases P l (resource t q) r s a =
+    resource-cases l t q (λ (o : Outcome Answer). P (made (resource t q) l (answered (o .answer)) (o .ledger))) (λ why u. r why u refl) a
+step-cases P l (sweep t) r s a =
+    sweep-cases l t (λ (o : Outcome Swept). P (made (sweep t) l (swept (o .answer)) (o .ledger))) (λ why u. r why u refl) a
 
 -- no row of the table has number 0
 pub refused-not : (why : Refusal) → eqb (numberOf why) 0 ≡ false

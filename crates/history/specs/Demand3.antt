@@ -9,16 +9,17 @@ use lib.ListN.{length}
 use Rattle.octets.specs.Lists.{some, tabulate}
 use Rattle.octets.specs.Parts.{same}
 use Rattle.ledger.specs.Limits.{headSize, recordSize, recordsLeast, recordsMost}
-use Rattle.ledger.specs.Fields.{records, used, value}
+use Rattle.ledger.specs.Fields.{rec, records, used, grant, value}
 use Rattle.ledger.specs.Sound.{sound}
 use Rattle.desk.specs.Answers.{numberOf, done}
-use Rattle.desk.specs.Requests.{ResourceRequest}
+use Rattle.desk.specs.Requests.{TokenRequest, ResourceRequest}
 use Rattle.desk.specs.Start.{start}
-use Rattle.desk.specs.declared.answer.Refusal.the-variants.{LedgerUnsound}
-use Rattle.history.specs.Runs.{Call, resource, AllTyped, Said, step, numberIn, accepted, grantOf, holderOf, started, lastIn}
-use Rattle.history.specs.Events.{Reading, event, readerOf, eventsIn}
+use Rattle.desk.specs.Token.{codePlace}
+use Rattle.desk.specs.declared.answer.Refusal.the-variants.{LedgerUnsound, CodeRedeemed}
+use Rattle.history.specs.Runs.{Call, token, resource, Typed, AllTyped, Said, step, numberIn, accepted, grantOf, holderOf, started, steps, lastIn}
+use Rattle.history.specs.Events.{Reading, event, readerOf, events, eventsIn}
 use Rattle.history.specs.Counts.{just, anyone, consents, tokens, drops, waiting}
-use Rattle.history.specs.Histories.{history, numbersOf, issued, Granted, Chain, Life}
+use Rattle.history.specs.Histories.{history, numbersOf, issued, Granted, Chain, Unrepeated, Life}
 
 -- what a reading at time t is answered on the ledger l
 abbrev pub reading : List ℕ → ℕ → ResourceRequest → Said
@@ -39,6 +40,14 @@ pub record Demand3 (n : ℕ) : Type 0 where
   pub permissions-all : (cs : List Call) → AllTyped cs → tokens anyone (eventsIn n cs) ≤ consents anyone (eventsIn n cs)
   -- "Each granted reading names a grant number whose history has exactly one push, one consent and one token, in that order: .."
   pub readings : (cs : List Call) → AllTyped cs → (r : Granted (eventsIn n cs)) → Chain (r .time) (r .request) (history (r .grant) (r .before))
+  -- document 02, Q-3: "In demand 3 a granted reading has no such second use between its token and itself."
+  pub no-second-use : (cs : List Call) → AllTyped cs → (r : Granted (eventsIn n cs))
+      → (x : Chain (r .time) (r .request) (history (r .grant) (r .before))) → Unrepeated (r .grant) (x .tokenTime) (x .tokenTable) (x .redeemed) (r .before)
+  -- and from her side: once a token call is answered 15, no reading that comes later names the grant number of the record that it freed, as the ledger had it
+  pub ends : (cs : List Call) → AllTyped cs → (t : ℕ) (table : List ℕ) (q : TokenRequest) → Typed (token t table q)
+      → numberIn (step (lastIn n cs) (token t table q) .answer) ≡ numberOf CodeRedeemed
+      → (ds : List Call) → AllTyped ds → (r : Granted (events (steps (step (lastIn n cs) (token t table q) .after) ds)))
+      → r .grant ≢ grant (rec (lastIn n cs) (codePlace (lastIn n cs) q))
   -- (every reading that is granted is such an event, the last of the events so far, with the grant number answered)
   pub reading-told : (cs : List Call) (t : ℕ) (q : ResourceRequest) → accepted (reading (lastIn n cs) t q) ≡ true
       → eventsIn n (cs ++ (resource t q ∷ []))

@@ -68,9 +68,10 @@ reads = record { token = replicate 32 8; presented = replicate 32 7; scope = 4; 
 
 -- ---- the runs
 
--- a push, a consent, a token and a reading, and the code once more
+-- a push, a consent, a token and a reading; the code once more, which ends the token; and the same reading again
 abbrev pub opening : List Call
-opening = push 100 table asks ∷ decide 110 allows room ∷ token 120 table redeems ∷ resource 130 reads ∷ token 140 table redeems ∷ []
+opening =
+    push 100 table asks ∷ decide 110 allows room ∷ token 120 table redeems ∷ resource 130 reads ∷ token 140 table redeems ∷ resource 150 reads ∷ []
 
 -- a push and a consent, and a sweep when the code has expired
 abbrev pub dropping : List Call
@@ -82,6 +83,7 @@ declining = push 100 table asks ∷ decide 110 declines room ∷ []
 
 pub record Example : Type 0 where
   pub opening-typed : AllTyped opening
+  -- the second reading is no event: it is refused
   pub opening-events : eventsIn 1 opening
       ≡ event Push program 0 1 (push 100 table asks)
       ∷ event Consent program 9 1 (decide 110 allows room)

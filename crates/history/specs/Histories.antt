@@ -92,6 +92,27 @@ pub record DecidedInTime (a : ℕ) (x : List ℕ) (p : PushRequest) (b : ℕ) : 
   pub alive : b < a + lifetime x p
   pub profile : b < a + profileReference
 
+-- a token call with the code and the client id of that one
+abbrev pub shows : TokenRequest → Call → Bool
+shows q (push t table p) = false
+shows q (decide t d out) = false
+shows q (token t table w) = same (w .code) (q .code) && same (w .client) (q .client)
+shows q (resource t w) = false
+shows q (sweep t) = false
+
+-- a second use of its code, by its client: such a call that was answered 15
+abbrev pub repeats : TokenRequest → Event → Bool
+repeats q e = is SecondUse e && shows q (e .call)
+
+-- document 02, Q-3: "a granted reading has no such second use between its token and itself": of the events before the reading, `between` are those behind its token
+pub record Unrepeated (g t : ℕ) (table : List ℕ) (q : TokenRequest) (es : List Event) : Type 0 where
+  pub earlier : List Event
+  pub client : List ℕ
+  pub holder : ℕ
+  pub between : List Event
+  pub whole : es ≡ earlier ++ (event Token client holder g (token t table q) ∷ between)
+  pub none : some (repeats q) between ≡ false
+
 -- what the history of a grant number can be at any moment: nothing; a push; a push and a decision, in time; a push, a consent and a token, in time
 pub data Life (h : List Call) : Type 0 where
   unborn : h ≡ [] → Life h

@@ -1,5 +1,5 @@
 // Token: the program redeems its code, with the secret whose hash it left, for a token tied to its key.
-// It rests on desk, which has its definition and its answers, on soundness, ledger, clients, forms and s256, and serves demands 1 and 2.
+// It rests on desk, which has its definition and its answers, on soundness, finding, ledger, clients, forms, s256 and octets, and serves demands 1 and 2.
 ghost use mathlib.Core.Path.{_≡_};
 ghost use Prim.Native.Nat.{_+_, _<_};
 ghost use Rattle.ledger.specs.Limits.{tokenLifetime, clockLimit};
@@ -7,7 +7,7 @@ ghost use Rattle.ledger.specs.Fields.{rec, slots, challenge};
 ghost use Rattle.ledger.specs.Write.{redeemed};
 ghost use Rattle.desk.specs.Answers.{answerOf};
 ghost use Rattle.desk.specs.Outcome.{left};
-ghost use Rattle.desk.specs.Token.{rewritten, token};
+ghost use Rattle.desk.specs.Token.{rewritten, ended, token};
 ghost use Rattle.s256.specs.Rule.{matching};
 use clients::known::Known;
 use clients::table::Table;
@@ -28,6 +28,7 @@ use ledger::record::address;
 use ledger::record::at;
 use ledger::record::check_life;
 use ledger::sound::Soundness;
+use octets::part::clear;
 use s256::Match;
 
 // Check 16, of the record found.
@@ -44,6 +45,16 @@ fn token_record(r: &mut [u8], expiry: u64, fresh: &[u8; 32], key: &[u8; 32]) -> 
 {
     ledger::write::redeemed(r, expiry, fresh, key);
     Answer::of(r)
+}
+
+// What a code shown twice leaves: record k, which is lent on, is freed, and the clock is set.
+fn end_at(ledger: &mut [u8], k: usize, time: u64)
+    requires { ⌜ k < slots (now ledger) ⌝ }
+    ensures { λ _. ⌜ now (ledger .exit) ≡ ended (now (ledger .entry)) time k ⌝ }
+{
+    let a = address(k);
+    clear(&mut ledger[a..a + Ledger::RECORD]);
+    set_clock(ledger, time);
 }
 
 // What is written once the record is found and all checks have passed: record k, which is lent on, and the clock.
@@ -97,6 +108,7 @@ pub fn token(
         return Answer::refused(Refusal::NoCode);
     };
     let Test::Passed = check::unredeemed(at(ledger, k)) else {
+        end_at(ledger, k, time);
         return Answer::refused(Refusal::CodeRedeemed);
     };
     let Life::Alive = check_life(at(ledger, k), time) else {

@@ -235,7 +235,9 @@ impl Desk {
     fn check(&self, before: &Desk, answer: Answer) {
         if answer.number != 0 {
             assert_eq!(answer, Answer { number: answer.number, ..Answer::default() });
-            assert!(self.ledger == before.ledger && self.output == before.output);
+            // Document 02, Q-3: 15 at token alone writes.
+            let writes = answer.number == 15;
+            assert!((writes || self.ledger == before.ledger) && self.output == before.output);
         }
     }
 }

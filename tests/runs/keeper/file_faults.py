@@ -168,11 +168,11 @@ def lost_answers(program, chance, rounds):
 
 
 def one_token(workers):
-    """One of them has a token. The others have 15; where a second use ends the token (Q-3) the next one has, and the rest 14."""
+    """One of them has a token. The next one has 15, which ends it (document 02, Q-3), and the rest have 14."""
     every = [line.split(" ") for lines in workers for line in lines]
     refused = Counter(line[3] for line in every if line[0] == "refused")
     assert len(every) == len(workers) and sum(line[0] == "token" for line in every) == 1, every
-    assert refused in ({"15": len(workers) - 1}, {"15": 1, "14": len(workers) - 2}), refused
+    assert refused == {"15": 1, "14": len(workers) - 2}, refused
 
 
 def one_code(program, chance, rounds, clients=16):

@@ -6,8 +6,9 @@ use Rattle.desk.specs.Answers.{refused}
 use Rattle.desk.specs.Checks.{Check, Verdict}
 use Rattle.desk.specs.Outcome.{Outcome, left, concludes}
 use Rattle.desk.specs.Requests.{TokenRequest}
-use Rattle.desk.specs.Token.{codePlace, tokenChecks, tokenAt, tokenLeaves, token}
+use Rattle.desk.specs.Token.{codePlace, tokenChecks, tokenAt, ended, tokenLeaves, token}
 use Rattle.desk.specs.declared.answer.Answer.{Answer}
+use Rattle.desk.specs.declared.answer.Refusal.{Refusal}
 use Rattle.forms.proofs.Laws.{verifier-well, verifier-ill}
 use Rattle.ledger.proofs.Tests.{sound-told, time-told, value-told, life-told, found-told, found-place}
 use Rattle.ledger.specs.Checks.{untimely, isCode}
@@ -38,15 +39,20 @@ done s = tokenAt (l s) (s .args .time) (request s) (place s)
 abbrev outcome : tie.Start → Outcome Answer
 outcome s = token (l s) (s .args .time) (s .args .table .now) (request s)
 
--- the check whose turn has come fails: its row is answered
-refusal : (s : tie.Start) (n : ℕ) {a : Answer} → Come n (checks s) → nth n (checks s) .holds ≡ true → a ≡ refused (nth n (checks s) .why) → left a (l s) ≡ outcome s
+-- what each row leaves
+abbrev leaves : tie.Start → Refusal → Outcome Answer
+leaves s = tokenLeaves (l s) (s .args .time) (place s)
+
+-- the check whose turn has come fails: its row is answered, with the ledger that it leaves
+refusal : (s : tie.Start) (n : ℕ) {a : Answer} {m : List ℕ} → Come n (checks s) → nth n (checks s) .holds ≡ true
+    → a ≡ refused (nth n (checks s) .why) → m ≡ leaves s (nth n (checks s) .why) .ledger → left a m ≡ outcome s
 unfolding token
-refusal s n t h e = refuses e (ap (λ (v : Verdict). concludes v (tokenLeaves (l s)) (done s)) (stops n (checks s) t h))
+refusal s n t h e f = rw f (refuses e (ap (λ (v : Verdict). concludes v (leaves s) (done s)) (stops n (checks s) t h)))
 
 -- none is left: the call is done
 acceptance : (s : tie.Start) → Come 11 (checks s) → outcome s ≡ done s
 unfolding token tokenChecks
-acceptance s t = ap (λ (v : Verdict). concludes v (tokenLeaves (l s)) (done s)) (all-pass 11 (checks s) t refl)
+acceptance s t = ap (λ (v : Verdict). concludes v (leaves s) (done s)) (all-pass 11 (checks s) t refl)
 
 -- ---- where the check of a number has passed: the start, and that the turn has come to the next one
 
@@ -149,67 +155,73 @@ returns : tie.Need-returns
 unfolding tokenChecks
 returns c =
     let b = c .before .before .before .before .before .before .before .before in
-    refusal (b) 0 refl (ap not (sound-told _ _ (sym (c .before .before .before .check .ensures) ∙ c .before .enum-told2 .given .1))) (c .refused .ensures)
+    refusal (b) 0 refl (ap not (sound-told _ _ (sym (c .before .before .before .check .ensures) ∙ c .before .enum-told2 .given .1))) (c .refused .ensures) refl
 
 returns-2 : tie.Need-returns-2
 unfolding tokenChecks
 returns-2 c =
     let b = c .before .before .before .before .before in
-    refusal (s1 b) 1 (t1 b) (time-told _ _ _ (sym (c .before .before .before .check2 .ensures) ∙ c .before .enum-told4 .given .1)) (c .refused2 .ensures)
+    refusal (s1 b) 1 (t1 b) (time-told _ _ _ (sym (c .before .before .before .check2 .ensures) ∙ c .before .enum-told4 .given .1)) (c .refused2 .ensures) refl
 
 returns-3 : tie.Need-returns-3
 unfolding tokenChecks
 returns-3 c =
     let b = c .before .before .before .before in
-    refusal (s2 b) 2 (t2 b) (ap not (table-told _ _ (sym (c .before .before .before .check3 .ensures) ∙ c .before .enum-told6 .given .1))) (c .refused3 .ensures)
+    refusal (s2 b) 2 (t2 b) (ap not (table-told _ _ (sym (c .before .before .before .check3 .ensures) ∙ c .before .enum-told6 .given .1))) (c .refused3 .ensures) refl
 
 returns-4 : tie.Need-returns-4
 unfolding tokenChecks
 returns-4 c =
     let b = c .before .before .before .before in
-    refusal (s3 b) 3 (t3 b) (ap not (known-told _ _ _ _ (sym (c .before .before .before .find .ensures) ∙ c .before .enum-told8 .given .1))) (c .refused4 .ensures)
+    refusal (s3 b) 3 (t3 b) (ap not (known-told _ _ _ _ (sym (c .before .before .before .find .ensures) ∙ c .before .enum-told8 .given .1))) (c .refused4 .ensures) refl
 
 returns-5 : tie.Need-returns-5
 unfolding tokenChecks
 returns-5 c =
     let b = c .before .before .before .before in
-    refusal (s4 b) 4 (t4 b) (told _ _ (sym (c .before .before .before .key .ensures) ∙ c .before .enum-told10 .given .1)) (c .refused5 .ensures)
+    refusal (s4 b) 4 (t4 b) (told _ _ (sym (c .before .before .before .key .ensures) ∙ c .before .enum-told10 .given .1)) (c .refused5 .ensures) refl
 
 returns-6 : tie.Need-returns-6
 unfolding tokenChecks
 returns-6 c =
     let b = c .before .before .before .before in
-    refusal (s13 b) 5 (t13 b) (ap not (verifier-ill _ (sym (c .before .before .before .check4 .ensures) ∙ c .before .enum-told12 .given .1))) (c .refused6 .ensures)
+    refusal (s13 b) 5 (t13 b) (ap not (verifier-ill _ (sym (c .before .before .before .check4 .ensures) ∙ c .before .enum-told12 .given .1))) (c .refused6 .ensures) refl
 
 returns-7 : tie.Need-returns-7
 unfolding tokenChecks
 returns-7 c =
     let b = c .before .before .before .before .before in
-    refusal (s5 b) 6 (t5 b) (ap not (found-told _ _ _ (sym (c .before .before .before .code .ensures) ∙ c .before .enum-told13 .given .1))) (c .refused7 .ensures)
+    refusal (s5 b) 6 (t5 b) (ap not (found-told _ _ _ (sym (c .before .before .before .code .ensures) ∙ c .before .enum-told13 .given .1))) (c .refused7 .ensures) refl
 
+end-at-requires : tie.Need-end-at-requires
+end-at-requires c κs = inside (c .before .before .before .before .before .before .before)
+
+-- 15, whose record is freed and whose clock is set
 returns-8 : tie.Need-returns-8
 unfolding tokenChecks
 returns-8 c =
-    let b = c .before .before .before .before .before .before .before in
-    refusal (s14 b) 7 (t14 b) (told _ _ (rw (record-is b (c .before .before .before .before .at .ensures)) at (sym (c .before .before .before .unredeemed .ensures) ∙ c .before .enum-told15 .given .1))) (c .refused8 .ensures)
+    let b = c .before .before .before .before .before .before .before .before .before .before .before in
+    refusal (s14 b) 7 (t14 b)
+    (told _ _ (rw (record-is b (c .before .before .before .before .before .before .before .before .at .ensures)) at (sym (c .before .before .before .before .before .before .before .unredeemed .ensures) ∙ c .before .before .before .before .before .enum-told15 .given .1)))
+    (c .refused8 .ensures) (c .before .before .before .end-at .ensures ∙ ap (ended (l (s14 b)) (s14 b .args .time)) (sym (found-at b)))
 
 returns-9 : tie.Need-returns-9
 unfolding tokenChecks
 returns-9 c =
     let b = c .before .before .before .before .before .before in
-    refusal (s14 (k15 b)) 8 (t15 b) (life-told _ _ _ (rw (record-is (k15 b) (c .before .before .before .before .at2 .ensures)) at (sym (c .before .before .before .check-life .ensures) ∙ c .before .enum-told17 .given .1))) (c .refused9 .ensures)
+    refusal (s14 (k15 b)) 8 (t15 b) (life-told _ _ _ (rw (record-is (k15 b) (c .before .before .before .before .at2 .ensures)) at (sym (c .before .before .before .check-life .ensures) ∙ c .before .enum-told17 .given .1))) (c .refused9 .ensures) refl
 
 returns-10 : tie.Need-returns-10
 unfolding tokenChecks
 returns-10 c =
     let b = c .before .before .before .before .before .before in
-    refusal (s14 (k11 b)) 9 (t11 b) (ap not (matching-differs _ _ (rw (record-is (k11 b) (c .before .before .before .before .at3 .ensures)) at (sym (c .before .before .before .check-verifier .ensures) ∙ c .before .enum-told19 .given .1)))) (c .refused10 .ensures)
+    refusal (s14 (k11 b)) 9 (t11 b) (ap not (matching-differs _ _ (rw (record-is (k11 b) (c .before .before .before .before .at3 .ensures)) at (sym (c .before .before .before .check-verifier .ensures) ∙ c .before .enum-told19 .given .1)))) (c .refused10 .ensures) refl
 
 returns-11 : tie.Need-returns-11
 unfolding tokenChecks
 returns-11 c =
     let b = c .before .before .before .before .before in
-    refusal (s14 (k16 b)) 10 (t16 b) (value-told _ _ _ (sym (c .before .before .before .check5 .ensures) ∙ c .before .enum-told21 .given .1)) (c .refused11 .ensures)
+    refusal (s14 (k16 b)) 10 (t16 b) (value-told _ _ _ (sym (c .before .before .before .check5 .ensures) ∙ c .before .enum-told21 .given .1)) (c .refused11 .ensures) refl
 
 token-at-requires : tie.Need-token-at-requires
 token-at-requires c κs = (inside (k7 (c .before)), timely-lt _ _ (in-time (time-place (c .before))))
@@ -270,6 +282,7 @@ token-spec =
     (search needs)
     (search needs)
     (search needs)
+    end-at-requires
     (search needs)
     (search needs)
     returns-8
