@@ -2,9 +2,10 @@
 use Prim.Native.Nat.{ℕ, _≤_}
 use native.Mathlib.Omega.{arith}
 use mathlib.Core.Path.{_≡_, refl, sym, ap, _∙_}
-use mathlib.Core.Bool.{Bool, true, false, not}
+use mathlib.Core.Bool.{Bool, true, false, not, cond}
 use mathlib.Core.List.{List}
 use lib.Bits.{and-self}
+use lib.Dec.{lit≤}
 use lib.ListN.{length, take, drop, length-drop}
 use lib.Seq.{take-append-seam}
 use borrow.Author.Tests.{ltb-false, eqb-true}
@@ -14,13 +15,15 @@ use Rattle.octets.specs.Plain.{Bytes}
 use Rattle.octets.proofs.Numbers.{num-lt}
 use Rattle.octets.proofs.Bytes.{octets-drop, octets-part}
 use Rattle.octets.proofs.Tests.{both-true}
-use Rattle.octets.proofs.Parts.{put-splice, same-eq}
-use Rattle.description.specs.Description.{Description, liveText}
-use Rattle.description.specs.Apart.{Described}
+use Rattle.octets.proofs.Parts.{put-splice, same-eq, part-length}
+use Rattle.description.specs.Description.{Description, liveText, inactiveText}
+use Rattle.description.specs.Apart.{Described, liveMost}
 use Rattle.description.proofs.Apart.{apart, never-inactive}
+use Rattle.description.proofs.Lengths.{longest}
 use Rattle.ledger.specs.Fields.{records, holder, boundKey}
 use Rattle.ledger.specs.Checks.{isToken, expired}
 use Rattle.ledger.proofs.Records.{rec-length}
+use Rattle.ledger_laws.specs.Sound.{SoundLedger}
 use Rattle.ledger_laws.proofs.Plain.{ledger-says}
 use Rattle.ledger_laws.proofs.Ranges.{octets-rec}
 use Rattle.desk.specs.Answers.{done}
@@ -32,11 +35,11 @@ use Rattle.desk.specs.declared.answer.Answer.{Answer}
 use Rattle.desk.specs.declared.answer.Introspected.{Introspected}
 use Rattle.desk.proofs.Turns.{number-refused}
 use Rattle.call_laws.specs.Accepted.{ResourceAccepted}
-use Rattle.call_laws.specs.Live.{textIn, ownRequest, GrantedAs, LiveFor, LiveExactly}
+use Rattle.call_laws.specs.Live.{textIn, ownRequest, GrantedAs, LiveFor, LiveExactly, AlwaysFits}
 use Rattle.call_laws.proofs.Rows.{resource-cases, resource-passed, introspect-cases, introspect-passed}
 use Rattle.call_laws.proofs.Facts.{ResourceFacts, resource-facts, IntrospectFacts, introspect-facts}
-use Rattle.call_laws.proofs.Readings.{time-says, live-at, text-by}
-use Rattle.call_laws.proofs.Accepting.{resource-accepted}
+use Rattle.call_laws.proofs.Readings.{time-says, live-at, text-by, text-so}
+use Rattle.call_laws.proofs.Accepting.{resource-accepted, introspect-accepted}
 
 -- ---- what is written is the text
 
@@ -149,3 +152,47 @@ module _ (l : List ℕ) (t : ℕ) (v out : List ℕ) (d : Description) (b : Byte
 
 pub live-exactly : LiveExactly
 live-exactly = record { live-granted = live-resource; granted-live = granted-text }
+
+-- ---- how long a text can be
+
+module _ (l : List ℕ) (t : ℕ) (v : List ℕ) (b : Bytes l) (s : SoundLedger l) where
+  own-fits : isLive l t v ≡ true → length (liveText (own l t v)) ≤ liveMost
+  own-fits e =
+      let (x, h) = live-at l t v e in
+      let r = shown l v in
+      let o = octets-rec l _ b in
+      let n = rec-length l _ (x .inside) in
+      let state = x .state-is in
+      let u = s .each _ (x .inside) .when-used (λ z. omega arith) in
+      let until = u .expiry-most in
+      longest .sound (own l t v)
+      (record {
+        client = part-length r 32 16 (omega (arith, n));
+        holder = num-lt (drop 24 r) 8 (octets-drop 24 r o) (simp length-drop (omega (arith, n)));
+        expiry = omega arith;
+        key = part-length r 160 32 (omega (arith, n));
+      })
+      (omega arith)
+
+  text-fits : length (textFor l t v) ≤ liveMost
+  unfolding textFor inactiveText
+  text-fits = go (isLive l t v) refl
+    where
+      go : (c : Bool) → isLive l t v ≡ c → length (cond c (liveText (describes (shown l v))) inactiveText) ≤ liveMost
+      go true e = own-fits e
+      go false e = lit≤ tt
+
+pub always-fits : AlwaysFits
+always-fits =
+    record {
+      text-most = text-fits;
+      roomy = λ l t v out b s i h.
+          introspect-accepted l t v out .1
+          (record {
+            ledger-sound = s;
+            in-time = i;
+            text = textFor l t v;
+            text-is = text-so l t v (ledger-says l .1 s);
+            output-room = omega (arith, text-fits l t v b s, h);
+          });
+    }

@@ -1,19 +1,21 @@
 -- The text and resource agree: it is live exactly when resource, at that time with that token and the text's own key, scope and holder, is granted, with that
 -- holder, scope and expiry (document 02, Q-1: "`{"active":false}` when it is unknown or expired, else one object").
-use Prim.Native.Nat.{ℕ}
+use Prim.Native.Nat.{ℕ, _≤_}
 use mathlib.Core.Path.{_≡_}
 use mathlib.Core.List.{List}
-use lib.ListN.{take}
+use lib.ListN.{length, take}
 use Rattle.octets.specs.Plain.{Bytes}
 use Rattle.description.specs.Description.{Description, liveText}
-use Rattle.description.specs.Apart.{Described}
+use Rattle.description.specs.Apart.{Described, liveMost}
+use Rattle.ledger_laws.specs.Sound.{SoundLedger}
 use Rattle.desk.specs.Answers.{done}
 use Rattle.desk.specs.Outcome.{Outcome}
 use Rattle.desk.specs.Requests.{ResourceRequest}
-use Rattle.desk.specs.Introspect.{introspect}
+use Rattle.desk.specs.Introspect.{textFor, introspect}
 use Rattle.desk.specs.Resource.{resource}
 use Rattle.desk.specs.declared.answer.Answer.{Answer}
 use Rattle.desk.specs.declared.answer.Introspected.{Introspected}
+use Rattle.call_laws.specs.Conditions.{InTime}
 
 -- the text that introspect wrote: the front of the output, as long as it answers
 abbrev pub textIn : Outcome Introspected → List ℕ
@@ -46,3 +48,9 @@ pub record LiveExactly : Type 0 where
   -- and where resource is granted, whatever else it was asked with, the text of its token is live
   pub granted-live : (l : List ℕ) (t : ℕ) (q : ResourceRequest) (out : List ℕ) → introspect l t (q .token) out .answer .number ≡ done
       → resource l t q .answer .number ≡ done → LiveFor q (resource l t q .answer) (textIn (introspect l t (q .token) out))
+
+-- "20 when the buffer is shorter than the text": on a sound ledger an output of `liveMost` bytes never is
+pub record AlwaysFits : Type 0 where
+  pub text-most : (l : List ℕ) (t : ℕ) (v : List ℕ) → Bytes l → SoundLedger l → length (textFor l t v) ≤ liveMost
+  pub roomy : (l : List ℕ) (t : ℕ) (v out : List ℕ) → Bytes l → SoundLedger l → InTime l t → liveMost ≤ length out
+      → introspect l t v out .answer .number ≡ done
