@@ -6,7 +6,7 @@ use super::record;
 use super::record::Field;
 use octets::part::{cut, same};
 
-#[derive(Drop)]
+#[derive(Clone, Copy)]
 pub enum Known {
     At(usize),
     Unknown,

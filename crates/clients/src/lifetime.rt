@@ -9,7 +9,7 @@ use super::record::Field;
 use octets::number::read16;
 use octets::part::cut;
 
-#[derive(Drop)]
+#[derive(Clone, Copy)]
 pub struct Reference {}
 
 impl Reference {

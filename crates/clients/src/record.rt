@@ -6,7 +6,7 @@ ghost use Rattle.clients.specs.Fields.{clients, client, permitted};
 use octets::number::read32;
 use octets::part::cut;
 
-#[derive(Drop)]
+#[derive(Clone, Copy)]
 pub struct Client {}
 
 impl Client {
@@ -20,7 +20,7 @@ impl Client {
 }
 
 // Where a field begins, and how many bytes it has.
-#[derive(Drop)]
+#[derive(Clone, Copy)]
 pub struct Field {}
 
 impl Field {

@@ -9,7 +9,7 @@ use super::record::{Client, Field};
 use super::{lifetime, record};
 use octets::part::{cut, is_zero, same};
 
-#[derive(Drop)]
+#[derive(Clone, Copy)]
 pub enum Table {
     Sound,
     Unsound,

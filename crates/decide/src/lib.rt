@@ -1,5 +1,7 @@
 // Decide: the holder who has logged in allows the request once, or declines it.
 // It rests on desk, which has its definition and its answers, on soundness and ledger, and serves demands 1 and 2.
+#![tactic(auto)]
+
 ghost use Rattle.std.specs.Prelude.{◌≡◌, ◌+◌, ◌<◌, length, ◌&&◌};
 ghost use Rattle.ledger.specs.Limits.{record_size};
 ghost use Rattle.ledger.specs.Limits.{clock_limit};

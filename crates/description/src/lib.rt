@@ -1,5 +1,7 @@
 // Description: the text that describes a live token to the figure servers (document 02, Q-1): one JSON object, written member by member. It rests on
 // texts for hexadecimal, decimal and base64url.
+#![tactic(auto)]
+
 ghost use Rattle.std.specs.Prelude.{◌≡◌, ◌+◌, ◌*◌, ◌<◌, ◌^◌, leb, length};
 ghost use Rattle.octets.specs.Parts.{put};
 ghost use Rattle.description.specs.Description.{described, live_text, inactive_text};
@@ -11,13 +13,13 @@ use octets::part::put;
 mod member;
 mod scope;
 
-#[derive(Drop)]
+#[derive(Clone, Copy)]
 pub enum Written {
     Length(usize),
     Short,
 }
 
-#[derive(Drop)]
+#[derive(Clone, Copy)]
 pub struct Description {}
 
 impl Description {

@@ -6,7 +6,7 @@ ghost use Rattle.description.specs.Scope.{scope_name, is_set, added, scope_names
 use octets::part::put;
 use texts::decimal;
 
-#[derive(Drop)]
+#[derive(Clone, Copy)]
 pub struct Scope {}
 
 impl Scope {

@@ -5,7 +5,7 @@ ghost use Rattle.desk.specs.Answers.{number_of, answer_of, answer_no, refused, d
 use ledger::record::{expiry, grant, holder, scope};
 use ledger::sweep::Freed;
 
-#[derive(Drop)]
+#[derive(Clone, Copy)]
 pub enum Refusal {
     LedgerUnsound,
     TimeWrong,
@@ -58,7 +58,7 @@ impl Refusal {
     }
 }
 
-#[derive(Drop)]
+#[derive(Clone, Copy)]
 pub struct Answer {
     pub number: u8,
     pub grant: u64,
@@ -109,7 +109,7 @@ impl Answer {
     }
 }
 
-#[derive(Drop)]
+#[derive(Clone, Copy)]
 pub struct Decided {
     pub answer: Answer,
     pub length: u8,
@@ -135,7 +135,7 @@ impl Decided {
     }
 }
 
-#[derive(Drop)]
+#[derive(Clone, Copy)]
 pub struct Swept {
     pub number: u8,
     pub pushed: usize,
@@ -167,7 +167,7 @@ impl Swept {
     }
 }
 
-#[derive(Drop)]
+#[derive(Clone, Copy)]
 pub struct Introspected {
     pub number: u8,
     pub length: usize,
@@ -194,7 +194,7 @@ impl Introspected {
 }
 
 // What resource's looking half answers.
-#[derive(Drop)]
+#[derive(Clone, Copy)]
 pub enum Reading {
     Granted(Answer),
     Refused(Refusal),

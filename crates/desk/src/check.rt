@@ -15,14 +15,14 @@ use ledger::state::{State, is_in};
 use octets::part::{is_zero, same};
 
 // What a check of the desk's own answers.
-#[derive(Drop)]
+#[derive(Clone, Copy)]
 pub enum Test {
     Passed,
     Failed,
 }
 
 // What push's scope decision answers: the bits to store, or none.
-#[derive(Drop)]
+#[derive(Clone, Copy)]
 pub enum Bits {
     Granted(u32),
     Outside,

@@ -1,9 +1,11 @@
 // Digest: SHA-256 exported to C, so that bench/ can measure it beside others. It rests on sha256 and is no part of the front's doorway.
+#![tactic(auto)]
+
 ghost use Rattle.std.specs.Prelude.{◌≡◌};
 ghost use Rattle.sha256.specs.Hash.{sha256};
 
 #[repr(C)]
-#[derive(Drop)]
+#[derive(Clone, Copy)]
 pub struct Digest {
     pub bytes: [u8; 32],
 }

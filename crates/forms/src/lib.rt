@@ -1,18 +1,20 @@
 // Forms: whether a redirect, a challenge or a verifier is well formed (document 01, section "Ledger", last paragraph). It rests on octets.
 // Each check takes any slice and answers a Form, which a caller takes apart by let else. The ledger's soundness and the checks of push and token call it.
+#![tactic(auto)]
+
 ghost use Rattle.std.specs.Prelude.{◌≡◌};
 ghost use Rattle.forms.specs.Limits.{redirect_least, redirect_most, challenge_length, verifier_least, verifier_most};
 ghost use Rattle.forms.specs.Forms.{redirect_form, challenge_form, verifier_form};
 
 mod class;
 
-#[derive(Drop)]
+#[derive(Clone, Copy)]
 pub enum Form {
     Well,
     Ill,
 }
 
-#[derive(Drop)]
+#[derive(Clone, Copy)]
 pub struct Redirect {}
 
 impl Redirect {
@@ -53,7 +55,7 @@ impl Redirect {
     }
 }
 
-#[derive(Drop)]
+#[derive(Clone, Copy)]
 pub struct Challenge {}
 
 impl Challenge {
@@ -78,7 +80,7 @@ impl Challenge {
     }
 }
 
-#[derive(Drop)]
+#[derive(Clone, Copy)]
 pub struct Verifier {}
 
 impl Verifier {

@@ -21,7 +21,7 @@ use wire::answer::Said;
 use wire::kind::{Client, Kind, Start, kind_of};
 
 // A buffer afterwards: how much of it is in use, and the number of the answer's bytes.
-#[derive(Drop)]
+#[derive(Clone, Copy)]
 struct Used {
     used: usize,
     count: usize,

@@ -2,7 +2,7 @@
 ghost use Rattle.std.specs.Prelude.{◌≡◌};
 ghost use Rattle.frames.specs.Limits.{line_most, line_kept, ledger_most, table_most, answer_line};
 
-#[derive(Drop)]
+#[derive(Clone, Copy)]
 pub struct Line {}
 
 impl Line {
@@ -25,14 +25,14 @@ impl Line {
     }
 }
 
-#[derive(Drop)]
+#[derive(Clone, Copy)]
 pub struct Frame {}
 
 impl Frame {
     pub const MOST: usize = 320;
 }
 
-#[derive(Drop)]
+#[derive(Clone, Copy)]
 pub struct Buffer {}
 
 impl Buffer {
@@ -53,7 +53,7 @@ impl Buffer {
     }
 }
 
-#[derive(Drop)]
+#[derive(Clone, Copy)]
 pub struct Answer {}
 
 impl Answer {

@@ -2,7 +2,7 @@
 ghost use Rattle.std.specs.Prelude.{◌≡◌};
 
 // The lengths in use of ledger and table, and the number of the answer's bytes.
-#[derive(Drop)]
+#[derive(Clone, Copy)]
 pub struct Served {
     pub ledger: usize,
     pub table: usize,

@@ -3,7 +3,7 @@ ghost use Rattle.std.specs.Prelude.{◌≡◌};
 ghost use Rattle.front.specs.Seen.{as_answer, as_decided, as_swept, as_introspected};
 
 #[repr(C)]
-#[derive(Drop)]
+#[derive(Clone, Copy)]
 pub struct Answer {
     pub number: u8,
     pub grant: u64,
@@ -27,7 +27,7 @@ impl Answer {
 }
 
 #[repr(C)]
-#[derive(Drop)]
+#[derive(Clone, Copy)]
 pub struct Decided {
     pub answer: Answer,
     pub length: u8,
@@ -46,7 +46,7 @@ impl Decided {
 }
 
 #[repr(C)]
-#[derive(Drop)]
+#[derive(Clone, Copy)]
 pub struct Swept {
     pub number: u8,
     pub pushed: usize,
@@ -68,7 +68,7 @@ impl Swept {
 }
 
 #[repr(C)]
-#[derive(Drop)]
+#[derive(Clone, Copy)]
 pub struct Introspected {
     pub number: u8,
     pub length: usize,

@@ -2,7 +2,7 @@
 ghost use Rattle.std.specs.Prelude.{◌≡◌};
 ghost use Rattle.front.specs.Consent.{consents};
 
-#[derive(Drop)]
+#[derive(Clone, Copy)]
 pub struct Choice {}
 
 impl Choice {

@@ -1,6 +1,8 @@
 // Front: the six calls and the two that only read, for a web front, exported to C under the names that include/perdigolh.h declares. It rests on the calls and on desk: each function hands on
 // what it is lent and answers the desk's answer in a struct that C can read. Its contract is the desk's equation, read through that struct.
 // Two functions beside the calls tell a caller which release and which interface it has.
+#![tactic(auto)]
+
 ghost use Rattle.std.specs.Prelude.{◌≡◌};
 ghost use Rattle.desk.specs.Outcome.{left, left_with};
 ghost use Rattle.desk.specs.Start.{start};

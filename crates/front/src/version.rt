@@ -1,12 +1,12 @@
 // Which release the archive is, and which interface it has: what a caller that was compiled with another header has to know.
-#[derive(Drop)]
+#[derive(Clone, Copy)]
 pub struct Version {}
 
 impl Version {
     pub const NUMBER: u32 = 1000;
 }
 
-#[derive(Drop)]
+#[derive(Clone, Copy)]
 pub struct Interface {}
 
 impl Interface {

@@ -1,5 +1,7 @@
 // Introspect: what the figure servers are told of a token, as a text (document 02, Q-1). The ledger is lent to be read only.
 // It rests on desk, which has its definition and its answer, on description for the text, on soundness, finding and ledger, and serves demands 1 and 2.
+#![tactic(auto)]
+
 ghost use Rattle.std.specs.Prelude.{◌≡◌};
 ghost use Rattle.description.specs.Writing.{written, written_over};
 ghost use Rattle.desk.specs.Outcome.{left_with};

@@ -32,7 +32,7 @@ pub fn set_next(l: &mut [u8], number: u64)
     put(l, Head::NEXT, &bytes64(number));
 }
 
-#[derive(Drop)]
+#[derive(Clone, Copy)]
 pub enum Timing {
     Timely,
     Untimely,

@@ -1,5 +1,5 @@
 // Where the fields of the head and of a record begin; the width of those that are read whole. A field ends where the next one begins.
-#[derive(Drop)]
+#[derive(Clone, Copy)]
 pub struct Head {}
 
 impl Head {
@@ -10,7 +10,7 @@ impl Head {
     pub const ZERO: usize = 16;
 }
 
-#[derive(Drop)]
+#[derive(Clone, Copy)]
 pub struct Field {}
 
 impl Field {

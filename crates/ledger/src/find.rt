@@ -1,11 +1,11 @@
 // What finding a record answers, and the kinds of record that a call asks for.
-#[derive(Drop)]
+#[derive(Clone, Copy)]
 pub enum Found {
     At(usize),
     Nothing,
 }
 
-#[derive(Drop)]
+#[derive(Clone, Copy)]
 pub enum Kind {
     Vacant,
     Reference,

@@ -2,7 +2,7 @@
 ghost use Rattle.std.specs.Prelude.{◌≡◌};
 ghost use Rattle.ledger.specs.Limits.{code_lifetime, token_lifetime, clock_limit, expiry_limit, head_size, record_size, records_least, records_most, last_number};
 
-#[derive(Drop)]
+#[derive(Clone, Copy)]
 pub struct Code {}
 
 impl Code {
@@ -15,7 +15,7 @@ impl Code {
     }
 }
 
-#[derive(Drop)]
+#[derive(Clone, Copy)]
 pub struct Token {}
 
 impl Token {
@@ -28,7 +28,7 @@ impl Token {
     }
 }
 
-#[derive(Drop)]
+#[derive(Clone, Copy)]
 pub struct Clock {}
 
 impl Clock {
@@ -41,7 +41,7 @@ impl Clock {
     }
 }
 
-#[derive(Drop)]
+#[derive(Clone, Copy)]
 pub struct Expiry {}
 
 impl Expiry {
@@ -54,7 +54,7 @@ impl Expiry {
     }
 }
 
-#[derive(Drop)]
+#[derive(Clone, Copy)]
 pub struct Grant {}
 
 impl Grant {
@@ -67,7 +67,7 @@ impl Grant {
     }
 }
 
-#[derive(Drop)]
+#[derive(Clone, Copy)]
 pub struct Ledger {}
 
 impl Ledger {

@@ -5,7 +5,7 @@ ghost use Rattle.ledger.specs.Sound.{holds};
 use super::record::{token, value};
 use octets::part::{is_zero, same};
 
-#[derive(Drop)]
+#[derive(Clone, Copy)]
 pub enum Value {
     New,
     Taken,

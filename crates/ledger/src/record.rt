@@ -106,7 +106,7 @@ pub fn redirect_field(r: &[u8]) -> &[u8]
     cut(r, Field::REDIRECT, Field::REDIRECT_WIDTH)
 }
 
-#[derive(Drop)]
+#[derive(Clone, Copy)]
 pub enum Life {
     Alive,
     Expired,

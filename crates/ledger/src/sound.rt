@@ -1,11 +1,11 @@
 // What check 1 answers: whether a ledger is sound; and, for a buffer whose old content is ignored, whether its length is right.
-#[derive(Drop)]
+#[derive(Clone, Copy)]
 pub enum Soundness {
     Sound,
     Unsound,
 }
 
-#[derive(Drop)]
+#[derive(Clone, Copy)]
 pub enum Size {
     Right,
     Wrong,

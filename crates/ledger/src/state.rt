@@ -4,7 +4,7 @@ ghost use Rattle.ledger.specs.Fields.{state, state_number, state_of, in_state};
 
 use super::field::Field;
 
-#[derive(Drop)]
+#[derive(Clone, Copy)]
 pub enum State {
     Free,
     Pushed,
@@ -13,7 +13,7 @@ pub enum State {
 }
 
 // What a state byte says: one of the states, or none that there is.
-#[derive(Drop)]
+#[derive(Clone, Copy)]
 pub enum Stated {
     Is(State),
     Unknown,

@@ -11,7 +11,7 @@ use super::record::{address, at, expiry, slots};
 use super::state::{State, is_in};
 use octets::part::clear;
 
-#[derive(Drop)]
+#[derive(Clone, Copy)]
 pub struct Freed {
     pub pushed: usize,
     pub consented: usize,

@@ -10,7 +10,7 @@ use frames::limit::{Answer, Buffer, Line};
 use frames::line::answer;
 
 // The lengths in use of the buffers of line, ledger and table.
-#[derive(Drop)]
+#[derive(Clone, Copy)]
 pub struct State {
     pub line: usize,
     pub ledger: usize,
@@ -31,7 +31,7 @@ impl State {
 }
 
 // What a call leaves: the lengths, how much of the input it took, and how many bytes it put out.
-#[derive(Drop)]
+#[derive(Clone, Copy)]
 pub struct Fed {
     pub state: State,
     pub taken: usize,
@@ -50,7 +50,7 @@ fn nothing(s: State) -> Fed
 }
 
 // What one byte leaves: the lengths, and how far the output is filled.
-#[derive(Drop)]
+#[derive(Clone, Copy)]
 struct Turned {
     state: State,
     filled: usize,

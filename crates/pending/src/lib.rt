@@ -1,6 +1,8 @@
 // Pending: the request that waits under a reference, as the holder is shown it before she decides. It rests on desk, which has its definition and its
 // answers, on soundness and ledger, and serves demands 1 and 2. The ledger is lent to be read only: no byte of it can change, so it is no step of a run
 // (demand 3).
+#![tactic(auto)]
+
 ghost use Rattle.std.specs.Prelude.{◌≡◌};
 ghost use Rattle.desk.specs.Outcome.{left_with};
 ghost use Rattle.desk.specs.Pending.{pending};

@@ -1,5 +1,7 @@
 // The line program: standard input is read as it comes, handed to lines, and what that puts out is written before more is read. `hand` is the one place that
 // writes and `serve_some` the one that reads. A failed read or write is told on standard error, and ends the program.
+#![tactic(auto)]
+
 ghost use Rattle.std.specs.Prelude.{◌≡◌, ◌≤◌, false, length, take};
 ghost use Rattle.lines.specs.Turn.{held, lengths};
 ghost use Rattle.lines.specs.Feed.{left, feed, finish};
@@ -12,14 +14,14 @@ use lines::feed::{State, feed, finish};
 use std::num::wrapping_add_usize;
 
 // What was handed to be written: how many bytes, and whether all of them were written.
-#[derive(Drop)]
+#[derive(Clone, Copy)]
 struct Handed {
     count: usize,
     is_written: bool,
 }
 
 // What a call of lines leaves: the lengths in use, how much of the chunk it took, and how many bytes of the output's front were handed on.
-#[derive(Drop)]
+#[derive(Clone, Copy)]
 struct Passed {
     state: State,
     taken: usize,
@@ -29,7 +31,7 @@ struct Passed {
 
 // What a step leaves: the lengths in use, how many bytes were read and how many handed on, modulo 2^64, whether there may be more, and whether the input has
 // come to its end. A step after which there is neither failed.
-#[derive(Drop)]
+#[derive(Clone, Copy)]
 struct Step {
     state: State,
     got: usize,

@@ -79,7 +79,7 @@ fn sweep(line: &[u8], l: &mut [u8], time: u64) {
     say::swept(line, s, l);
 }
 
-#[derive(Drop)]
+#[derive(Clone, Copy)]
 enum Call {
     Start,
     Push,

@@ -1,5 +1,7 @@
 // Plays a script of calls through the desk, and writes a line a call: its name, its answer, and the clock and next number of the ledger that it leaves.
 // The script is the file stdin. The expected lines are those of tests/runs/plays.py, which has them from documents 01 and 02.
+#![tactic(auto)]
+
 mod calls;
 mod say;
 mod table;

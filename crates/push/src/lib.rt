@@ -1,5 +1,7 @@
 // Push: a buyer's program leaves its request and gets a reference.
 // It rests on desk, which has its definition and its answers, on soundness, ledger, clients and forms, and serves demands 1 and 2.
+#![tactic(auto)]
+
 ghost use Rattle.std.specs.Prelude.{◌≡◌, ◌<◌};
 ghost use Rattle.ledger.specs.Limits.{last_number};
 ghost use Rattle.ledger.specs.Fields.{rec, slots};

@@ -1,5 +1,7 @@
 // Resource: with token and key the program reads only what the holder allowed.
 // It rests on desk, which has its definition and its answers, on soundness and ledger, and serves demands 1 and 2.
+#![tactic(auto)]
+
 ghost use Rattle.std.specs.Prelude.{◌≡◌};
 ghost use Rattle.desk.specs.Outcome.{left};
 ghost use Rattle.desk.specs.Resource.{look, resource_by, resource};

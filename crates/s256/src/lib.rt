@@ -1,12 +1,14 @@
 // S256: the text of a digest in base64url, and the rule by which a verifier matches a challenge (document 01, section "The calls, with checks in order", verification at 16).
 // It rests on sha256 for the digest, on texts for its text, on octets for the comparison, and its laws on forms: every text is a well-formed challenge.
 // Token's check 16 calls it.
+#![tactic(auto)]
+
 ghost use Rattle.std.specs.Prelude.{◌≡◌};
 ghost use Rattle.s256.specs.Rule.{matching};
 
 pub mod base64url;
 
-#[derive(Drop)]
+#[derive(Clone, Copy)]
 pub enum Match {
     Same,
     Differs,

@@ -1,5 +1,7 @@
 // SHA-256, as FIPS 180-4 defines it: the digest of a slice of any length. The definition is specs/Hash.antt's `sha256`.
 // Rests on octets for big-endian numbers and parts, and on std for sums modulo 2^32.
+#![tactic(auto)]
+
 ghost use Rattle.std.specs.Prelude.{◌≡◌};
 ghost use Rattle.sha256.specs.Hash.{sha256};
 

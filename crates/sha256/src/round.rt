@@ -75,7 +75,7 @@ const K: [u32; 64] = [
 ];
 
 // The eight working variables.
-#[derive(Drop)]
+#[derive(Clone, Copy)]
 pub struct Working {
     pub a: u32,
     pub b: u32,

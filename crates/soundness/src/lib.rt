@@ -1,5 +1,7 @@
 // Soundness: check 1, the length and the soundness of a ledger (document 01, section "Ledger"), by record and by pair of records.
 // It rests on ledger, forms and octets; every call of the desk begins with it. Both public functions take any slice.
+#![tactic(auto)]
+
 mod place;
 mod pool;
 mod record;

@@ -1,5 +1,7 @@
 // Start: a ledger of zeros with next number 1.
 // It rests on desk, which has its definition and its answer, on soundness and ledger, and serves demands 1 and 2.
+#![tactic(auto)]
+
 ghost use Rattle.std.specs.Prelude.{◌≡◌};
 ghost use Rattle.desk.specs.Outcome.{left};
 ghost use Rattle.desk.specs.Start.{start};

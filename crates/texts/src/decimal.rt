@@ -5,7 +5,7 @@ ghost use Rattle.texts.specs.Decimal.{decimal, decimal_most};
 
 use octets::part::put;
 
-#[derive(Drop)]
+#[derive(Clone, Copy)]
 pub struct Decimal {}
 
 impl Decimal {

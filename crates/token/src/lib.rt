@@ -1,5 +1,7 @@
 // Token: the program redeems its code, with the secret whose hash it left, for a token tied to its key.
 // It rests on desk, which has its definition and its answers, on soundness, finding, ledger, clients, forms, s256 and octets, and serves demands 1 and 2.
+#![tactic(auto)]
+
 ghost use Rattle.std.specs.Prelude.{◌≡◌, ◌+◌, ◌<◌};
 ghost use Rattle.ledger.specs.Limits.{token_lifetime, clock_limit};
 ghost use Rattle.ledger.specs.Fields.{rec, slots, challenge};

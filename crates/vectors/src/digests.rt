@@ -4,7 +4,7 @@ ghost use Rattle.sha256.specs.Hash.{sha256};
 ghost use Rattle.texts.specs.Base64url.{base64url};
 ghost use Rattle.texts.specs.Hex.{hex};
 
-#[derive(Drop)]
+#[derive(Clone, Copy)]
 pub struct Digest {}
 
 impl Digest {

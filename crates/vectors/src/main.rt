@@ -1,5 +1,7 @@
 // Writes the SHA-256 digests of outside vectors, a line a message: its label, then the digest in hexadecimal and in base64url.
 // The expected lines are those of another program, tests/runs/vectors.py.
+#![tactic(auto)]
+
 mod digests;
 mod messages;
 

@@ -1,6 +1,8 @@
 // Writes the verdicts of checks 1 and 3 on ledgers and client tables that a script makes by hand: sound ones, and each spoiled in one way.
 // The script is the file stdin. A line is a name and a verdict; the expected lines are those of another program, tests/runs/verdicts.py, which has them
 // from document 01's rules.
+#![tactic(auto)]
+
 mod bytes;
 mod judge;
 mod words;

@@ -6,7 +6,7 @@ use desk::answer::Answer;
 use octets::number::{bytes32, bytes64};
 use octets::part::put;
 
-#[derive(Drop)]
+#[derive(Clone, Copy)]
 pub struct Said {}
 
 impl Said {

@@ -3,7 +3,7 @@ ghost use Rattle.std.specs.Prelude.{◌≡◌, true, ◌≤◌, ◌<◌, length}
 ghost use Rattle.wire.specs.Calls.{request_size};
 ghost use Rattle.wire.specs.Kinds.{fits, by_yes, kind_of, least};
 
-#[derive(Drop)]
+#[derive(Clone, Copy)]
 pub enum Kind {
     Start,
     Push,
@@ -16,28 +16,28 @@ pub enum Kind {
 }
 
 // Widths of fields, each with the kind it belongs to.
-#[derive(Drop)]
+#[derive(Clone, Copy)]
 pub struct ClientId {}
 
 impl ClientId {
     pub const WIDTH: usize = 16;
 }
 
-#[derive(Drop)]
+#[derive(Clone, Copy)]
 pub struct Key {}
 
 impl Key {
     pub const WIDTH: usize = 32;
 }
 
-#[derive(Drop)]
+#[derive(Clone, Copy)]
 pub struct Value {}
 
 impl Value {
     pub const WIDTH: usize = 32;
 }
 
-#[derive(Drop)]
+#[derive(Clone, Copy)]
 pub struct Start {}
 
 impl Start {
@@ -48,7 +48,7 @@ impl Start {
     pub const WIDTH: usize = 2;
 }
 
-#[derive(Drop)]
+#[derive(Clone, Copy)]
 pub struct Push {}
 
 impl Push {
@@ -69,7 +69,7 @@ impl Push {
     pub const WIDTH: usize = 136;
 }
 
-#[derive(Drop)]
+#[derive(Clone, Copy)]
 pub struct Decide {}
 
 impl Decide {
@@ -90,7 +90,7 @@ impl Decide {
     pub const WIDTH: usize = 98;
 }
 
-#[derive(Drop)]
+#[derive(Clone, Copy)]
 pub struct Token {}
 
 impl Token {
@@ -111,7 +111,7 @@ impl Token {
     pub const WIDTH: usize = 153;
 }
 
-#[derive(Drop)]
+#[derive(Clone, Copy)]
 pub struct Resource {}
 
 impl Resource {
@@ -139,7 +139,7 @@ impl Resource {
     }
 }
 
-#[derive(Drop)]
+#[derive(Clone, Copy)]
 pub struct Sweep {}
 
 impl Sweep {
@@ -150,7 +150,7 @@ impl Sweep {
     pub const WIDTH: usize = 9;
 }
 
-#[derive(Drop)]
+#[derive(Clone, Copy)]
 pub struct Client {}
 
 impl Client {
