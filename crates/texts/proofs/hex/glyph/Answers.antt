@@ -1,0 +1,8 @@
+use Rattle.std.proofs.Common.{le-ltb, lt-ltb}
+use Rattle.texts.proofs.hex.glyph.Goals as goal
+
+pub returns-then-d-lt10 : goal.returns-then-d-lt10
+returns-then-d-lt10 c = simp (lt-ltb _ _ c.if-d-lt10.true)
+
+pub returns : goal.returns
+returns c = simp (le-ltb _ _ c.if-d-lt10.false)
