@@ -1,0 +1,48 @@
+use Rattle.std.proofs.Common.{ap, arith, drop, false, not, refl, rules, sym, true, ⊎_elim, ◌+◌, ◌<◌, ◌∙◌, ◌≡◌, ◌≤◌}
+use Rattle.clients.proofs.Entries.{clash_hit, clash_miss, clash_end, pairs_hit, pairs_miss, pairs_end}
+use Rattle.clients.specs.Fields.{client, entries}
+use Rattle.clients.specs.Sound.{same_id, ids_distinct}
+use Rattle.octets.specs.Lists.{some}
+use Rattle.clients.proofs.table.ids_distinct.Goals as goal
+
+abbrev invariant_loop : tie.invariant_loop
+invariant_loop table n clash₀ i id j₀ clash j =
+    (some (same_id (client table i)) (drop (i + 1) (entries table)) ≡ some (same_id (client table i)) (drop j (entries table)))
+    × (i < j) × (j ≤ n) × (clash ≡ false)
+
+pub search-init : goal.search-init
+unfolding ids_distinct
+search-init c = (search rules, refl, refl)
+
+pub loop-j-init : goal.loop-j-init
+loop-j-init c = (refl, search rules, search rules, search rules)
+
+pub loop-j-preserved : goal.loop-j-preserved
+unfolding same_id
+loop-j-preserved c =
+    let l = c.loop-j in
+    let i = c.search.i in
+    let t = c.args.table.now in
+    let e : same_id (client t i) (client t l.j) ≡ false = cc in
+    (l.invariant.0 ∙ clash_miss t l.j (omega arith) (same_id (client t i)) e, search rules, search rules, l.invariant.3)
+
+pub search-preserved : goal.search-preserved
+search-preserved c =
+    let l = c.loop-j in
+    let s = c.search in
+    let t = c.args.table.now in
+    let e = clash_end t l.j (omega arith) (same_id (client t s.i)) in
+    (search rules, l.invariant.3, s.invariant.2 ∙ pairs_miss t s.i (omega arith) same_id (l.invariant.0 ∙ e))
+
+pub returns : goal.returns
+unfolding same_id
+returns c =
+    let s = c.search in
+    let t = c.args.table.now in
+    ⊎_elim
+    (λ w. ap not (w.1 ∙ s.invariant.1) ∙ sym (s.invariant.2 ∙ pairs_end t s.i (omega arith) same_id))
+    (λ w.
+    let e : same_id (client t s.i) (client t w.2.j) ≡ true = cc in
+    ap not w.7
+    ∙ sym (s.invariant.2 ∙ pairs_hit t s.i (omega arith) same_id (w.2.inv.0 ∙ clash_hit t w.2.j (omega arith) (same_id (client t s.i)) e)))
+    c.search-test.branch

@@ -1,0 +1,33 @@
+use Rattle.std.proofs.Common.{sym, ◌∙◌}
+use Rattle.clients.specs.Sound.{sound_record, id_given, key_given, rest_zero}
+use borrow.Author.Tests.{not-true, not-false}
+use mathlib.Core.Bool.{and-false}
+use Rattle.clients.proofs.table.sound_record.Goals as goal
+
+pub returns-then-is_zero : goal.returns-then-is_zero
+unfolding sound_record id_given
+returns-then-is_zero c = simp (sym c.cut.ensures, sym c.is_zero.ensures ∙ c.if-is_zero.true)
+
+pub returns-then-is_zero-2 : goal.returns-then-is_zero-2
+unfolding sound_record id_given key_given
+returns-then-is_zero-2 c = simp (sym c.cut-2.ensures, sym c.is_zero-2.ensures ∙ c.if-is_zero-2.true, and-false)
+
+pub returns-then-not-fits : goal.returns-then-not-fits
+unfolding sound_record
+returns-then-not-fits c = simp (sym c.fits2.ensures ∙ not-true c.fits2.result c.if-not-fits.true, and-false)
+
+pub returns : goal.returns
+unfolding sound_record id_given key_given rest_zero
+returns c =
+    let f = c in
+    let k = f in
+    let i = k in
+    simp (
+      sym i.cut.ensures,
+      sym i.is_zero.ensures ∙ i.if-is_zero.false,
+      sym k.cut-2.ensures,
+      sym k.is_zero-2.ensures ∙ k.if-is_zero-2.false,
+      sym f.fits2.ensures ∙ not-false f.fits2.result f.if-not-fits.false,
+      sym c.cut-3.ensures,
+    )
+    c.is_zero-3.ensures

@@ -1,9 +1,0 @@
-use Rattle.desk.proofs.answer.Answer.refused.Statement.{statement}
-use borrow.Author.Rules.{rules}
-use Rattle.desk.proofs.answer.Answer.refused.Tie as tie
-
-returns : tie.Need-returns
-returns c = rw c.number.ensures
-
-pub refused_spec : {M : Type 1} → statement M
-refused_spec = tie.close (tie.spec (search rules) returns)

@@ -1,9 +1,0 @@
-use Rattle.desk.proofs.answer.Decided.refused.Statement.{statement}
-use borrow.Author.Rules.{rules}
-use Rattle.desk.proofs.answer.Decided.refused.Tie as tie
-
-returns : tie.Need-returns
-returns c = rw c.refused.ensures
-
-pub refused_spec : {M : Type 1} → statement M
-refused_spec = tie.close (tie.spec (search rules) returns)

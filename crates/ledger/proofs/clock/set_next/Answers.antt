@@ -1,0 +1,4 @@
+use Rattle.ledger.proofs.clock.set_next.Goals as goal
+
+pub returns : goal.returns
+returns c = cc

@@ -1,0 +1,4 @@
+use Rattle.ledger.proofs.record.expiry.Goals as goal
+
+pub returns : goal.returns
+returns c = cc

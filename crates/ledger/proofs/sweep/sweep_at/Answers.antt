@@ -1,0 +1,32 @@
+use Rattle.std.proofs.Common.{arith, sym, ◌∙◌}
+use Rattle.ledger.proofs.Records.{lent_within, lent_out, lent_back}
+use Rattle.ledger.proofs.Swept.{swept_kept, swept_freed}
+use Rattle.ledger.proofs.sweep.sweep_at.Goals as goal
+
+pub overflow_add-a : goal.overflow_add-a
+overflow_add-a c =
+    let e = c in
+    omega (arith, lent_within e.args.l.now e.args.k c.address-a.result e.requires (omega arith) c.address-a.ensures)
+
+pub slice_bounds-clear-end : goal.slice_bounds-clear-end
+slice_bounds-clear-end c =
+    let e = c in
+    lent_within e.args.l.now e.args.k c.address-a.result e.requires (omega arith) c.address-a.ensures
+
+pub returns-then-is_due : goal.returns-then-is_due
+returns-then-is_due c =
+    let b = c in
+    let d = b in
+    let e = d in
+    let a = e.args in
+    lent_back a.l-1.now a.k b.address-a.result e.requires (omega arith) b.address-a.ensures c.clear.new.0
+    ∙ swept_freed a.time a.l-1.now a.k _ _ e.requires
+    (rw d.at.ensures at (sym d.is_due.ensures ∙ b.if-is_due.true))
+    (lent_out a.l-1.now a.k b.address-a.result e.requires (omega arith) b.address-a.ensures)
+    c.clear.ensures
+
+pub returns-else-is_due : goal.returns-else-is_due
+returns-else-is_due c =
+    let d = c in
+    let a = d.args in
+    swept_kept a.time a.l-1.now a.k (rw d.at.ensures at (sym d.is_due.ensures ∙ c.if-is_due.false))

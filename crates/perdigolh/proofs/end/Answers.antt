@@ -1,0 +1,12 @@
+use Rattle.std.proofs.Common.{arith, length, length-take-le, sym, ◌≤◌}
+use Rattle.perdigolh.proofs.Passing.{fronted}
+use Rattle.perdigolh.proofs.end.Goals as goal
+
+pub returns : goal.returns
+returns c =
+    let f = c.finish-fed in
+    let k : f.result.filled ≤ length f.new.1.1.1.1.0 = omega arith in
+    let w = fronted _ f.result.filled f.new.1.1.1.1.0 k f.ensures.0 c.hand-last.ensures in
+    (w.0, w.1)
+
+-- INLINE (λ c. sym (length-take-le _ _ (omega arith)))

@@ -1,0 +1,8 @@
+use Rattle.std.proofs.Common.{sym, ◌∙◌}
+use Rattle.soundness.proofs.check_size.Goals as goal
+
+pub returns-then-is_sized : goal.returns-then-is_sized
+returns-then-is_sized c = simp (sym c.is_sized.ensures ∙ c.if-is_sized.true)
+
+pub returns : goal.returns
+returns c = simp (sym c.is_sized.ensures ∙ c.if-is_sized.false)
