@@ -1,21 +1,20 @@
 use Rattle.std.proofs.Common.{sym, ◌∙◌}
 use Rattle.desk.specs.Tests.{fails_when}
 use Rattle.ledger.proofs.Tests.{value_told}
-use borrow.Author.Tests.{not-true, not-false}
 use Rattle.decide.proofs.check_fresh.Goals as goal
 
 pub returns-then-not-yes : goal.returns-then-not-yes
 unfolding fails_when
-returns-then-not-yes c = rw (not-true c.args.yes c.if-not-yes.true)
+returns-then-not-yes c = rw (c.if-not-yes.true)
 
 pub returns-in_default : goal.returns-in_default
 unfolding fails_when
 returns-in_default c =
     let c5 = c in
-    rw (not-false c5.args.yes c.if-not-yes.false, value_told _ _ _ (sym c.check.ensures ∙ c.enum_told-in_default-1.given.1))
+    rw (c.if-not-yes.false, value_told _ _ _ (sym c.check.ensures ∙ c.enum_told-in_default-1.given.1))
 
 pub returns : goal.returns
 unfolding fails_when
 returns c =
     let c5 = c in
-    rw (not-false c5.args.yes c.if-not-yes.false, value_told _ _ _ (sym c.check.ensures ∙ c.enum_told-1.given.1))
+    rw (c.if-not-yes.false, value_told _ _ _ (sym c.check.ensures ∙ c.enum_told-1.given.1))

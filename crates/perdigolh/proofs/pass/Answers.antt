@@ -9,4 +9,5 @@ returns c =
     let w = fronted _ f.result.filled f.new.1.1.1.1.1.0 k f.ensures.0 c.hand-handed.ensures in
     (w.0, (f.ensures.1.0, w.1))
 
--- INLINE (λ c. sym (length-take-le _ _ (omega arith)))
+pub slice_bounds-hand-end-2 : goal.slice_bounds-hand-end-2
+slice_bounds-hand-end-2 c = sym (length-take-le _ _ (omega arith))

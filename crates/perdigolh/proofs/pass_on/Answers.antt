@@ -29,16 +29,16 @@ loop-turns-preserved c =
       search rules,
       search rules,
       c.out-1.given ∙ l.invariant.4,
-      going_on _ (held l.state l.line-1 l.ledger-1 l.table-1) l.out-1 p.args.chunk.now l.at l.handed l.turns (omega arith)
+      going_on _ (held l.state l.line l.ledger l.table) l.out p.args.chunk.now l.at l.handed l.turns (omega arith)
           (ltb-true _ _ test.if-at-chunk.true) l.invariant.5 passed.pass-passed.ensures.0 passed.pass-passed.ensures.1.1 c.wrapping_add_usize-handed.ensures,
     )
 
 pub returns-else-at-chunk : goal.returns-else-at-chunk
 returns-else-at-chunk c =
     let l = c.loop-turns in
-    (λ e. going_end _ (held l.state l.line-1 l.ledger-1 l.table-1) l.out-1 c.args.chunk.now l.at l.handed l.turns (ltb-false _ _ c.if-at-chunk.false) l.invariant.5, search rules)
+    (λ e. going_end _ (held l.state l.line l.ledger l.table) l.out c.args.chunk.now l.at l.handed l.turns (ltb-false _ _ c.if-at-chunk.false) l.invariant.5, search rules)
 
 pub returns-after-loop-turns : goal.returns-after-loop-turns
 returns-after-loop-turns c =
     let l = c.loop-turns in
-    (λ e. going_out _ (held l.state l.line-1 l.ledger-1 l.table-1) l.out-1 c.args.chunk.now l.at l.handed l.turns (omega arith) l.invariant.5, search rules)
+    (λ e. going_out _ (held l.state l.line l.ledger l.table) l.out c.args.chunk.now l.at l.handed l.turns (omega arith) l.invariant.5, search rules)

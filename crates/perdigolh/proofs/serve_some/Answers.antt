@@ -8,7 +8,7 @@ returns-then-got-lt0 c =
     let r = c.read-got in
     let b = c in
     let a = b.args in (
-      read_none a.s a.line-1.now a.ledger-1.now a.table-1.now a.out-1.now r.new.1.0 c.failed.result.more c.failed.ensures.1.0 c.failed.ensures.0 c.failed.ensures.1.1.0,
+      read_none a.s a.line.now a.ledger.now a.table.now a.out.now r.new.1.0 c.failed.result.more c.failed.ensures.1.0 c.failed.ensures.0 c.failed.ensures.1.1.0,
       not_ended c.failed.ensures.1.1.1,
     )
 
@@ -23,6 +23,6 @@ returns c =
     let n = c.count-n in
     let r = c.read-got in
     let a = c.args in (
-      read_some (held a.s a.line-1.now a.ledger-1.now a.table-1.now) a.out-1.now r.new.1.0 n.result n.ensures.0.0 p.result.more p.ensures.1.0 p.ensures.0,
+      read_some (held a.s a.line.now a.ledger.now a.table.now) a.out.now r.new.1.0 n.result n.ensures.0.0 p.result.more p.ensures.1.0 p.ensures.0,
       not_ended p.ensures.1.1,
     )

@@ -2,41 +2,40 @@ use Rattle.std.proofs.Common.{sym, ◌∙◌}
 use Rattle.soundness.proofs.Redirects.{head_within}
 use Rattle.ledger.specs.Checks.{check_sound}
 use Rattle.ledger.specs.Sound.{sound}
-use borrow.Author.Tests.{not-true, not-false}
 use mathlib.Core.Bool.{and-false}
 use Rattle.soundness.proofs.check.Goals as goal
 
 pub returns-then-not-is_sized : goal.returns-then-not-is_sized
 unfolding check_sound sound
-returns-then-not-is_sized c = simp (sym c.is_sized.ensures ∙ not-true c.is_sized.result c.if-not-is_sized.true)
+returns-then-not-is_sized c = simp (sym c.is_sized.ensures ∙ c.if-not-is_sized.true)
 
 pub is_head_sound-requires : goal.is_head_sound-requires
-is_head_sound-requires c = head_within _ (sym c.is_sized.ensures ∙ not-false c.is_sized.result c.if-not-is_sized.false)
+is_head_sound-requires c = head_within _ (sym c.is_sized.ensures ∙ c.if-not-is_sized.false)
 
 pub returns-then-not-is_head_sound : goal.returns-then-not-is_head_sound
 unfolding check_sound sound
-returns-then-not-is_head_sound c = simp (sym c.is_head_sound.ensures ∙ not-true c.is_head_sound.result c.if-not-is_head_sound.true, and-false)
+returns-then-not-is_head_sound c = simp (sym c.is_head_sound.ensures ∙ c.if-not-is_head_sound.true, and-false)
 
 pub returns-then-not-are_records_sound : goal.returns-then-not-are_records_sound
 unfolding check_sound sound
 returns-then-not-are_records_sound c =
     simp (
       sym c.next_number.ensures,
-      sym c.are_records_sound.ensures ∙ not-true c.are_records_sound.result c.if-not-are_records_sound.true,
+      sym c.are_records_sound.ensures ∙ c.if-not-are_records_sound.true,
       and-false,
     )
 
 pub returns-then-not-own_apart : goal.returns-then-not-own_apart
 unfolding check_sound sound
-returns-then-not-own_apart c = simp (sym c.own_apart.ensures ∙ not-true c.own_apart.result c.if-not-own_apart.true, and-false)
+returns-then-not-own_apart c = simp (sym c.own_apart.ensures ∙ c.if-not-own_apart.true, and-false)
 
 pub returns-then-not-grants_apart : goal.returns-then-not-grants_apart
 unfolding check_sound sound
-returns-then-not-grants_apart c = simp (sym c.grants_apart.ensures ∙ not-true c.grants_apart.result c.if-not-grants_apart.true, and-false)
+returns-then-not-grants_apart c = simp (sym c.grants_apart.ensures ∙ c.if-not-grants_apart.true, and-false)
 
 pub returns-then-not-values_apart : goal.returns-then-not-values_apart
 unfolding check_sound sound
-returns-then-not-values_apart c = simp (sym c.values_apart.ensures ∙ not-true c.values_apart.result c.if-not-values_apart.true, and-false)
+returns-then-not-values_apart c = simp (sym c.values_apart.ensures ∙ c.if-not-values_apart.true, and-false)
 
 pub returns : goal.returns
 unfolding check_sound sound
@@ -48,11 +47,11 @@ returns c =
     let e2 = e3 in
     let e1 = e2 in
     simp (
-      sym e1.is_sized.ensures ∙ not-false e1.is_sized.result e1.if-not-is_sized.false,
-      sym e2.is_head_sound.ensures ∙ not-false e2.is_head_sound.result e2.if-not-is_head_sound.false,
+      sym e1.is_sized.ensures ∙ e1.if-not-is_sized.false,
+      sym e2.is_head_sound.ensures ∙ e2.if-not-is_head_sound.false,
       sym e3.next_number.ensures,
-      sym e3.are_records_sound.ensures ∙ not-false e3.are_records_sound.result e3.if-not-are_records_sound.false,
-      sym e4.own_apart.ensures ∙ not-false e4.own_apart.result e4.if-not-own_apart.false,
-      sym e5.grants_apart.ensures ∙ not-false e5.grants_apart.result e5.if-not-grants_apart.false,
-      sym e6.values_apart.ensures ∙ not-false e6.values_apart.result e6.if-not-values_apart.false,
+      sym e3.are_records_sound.ensures ∙ e3.if-not-are_records_sound.false,
+      sym e4.own_apart.ensures ∙ e4.if-not-own_apart.false,
+      sym e5.grants_apart.ensures ∙ e5.if-not-grants_apart.false,
+      sym e6.values_apart.ensures ∙ e6.if-not-values_apart.false,
     )

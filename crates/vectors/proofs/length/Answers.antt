@@ -1,4 +1,5 @@
 use Rattle.std.proofs.Common.{length-take-le, rules, sym}
 use Rattle.vectors.proofs.length.Goals as goal
 
--- INLINE (λ c. sym (length-take-le _ _ (search rules)))
+pub columns-requires : goal.columns-requires
+columns-requires c = sym (length-take-le _ _ (search rules))

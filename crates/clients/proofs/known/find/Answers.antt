@@ -2,7 +2,6 @@ use Rattle.std.proofs.Common.{arith, false, sym, true, ◌≡◌}
 use Rattle.clients.proofs.Checks.{no-such-id, key-differs, key-agrees}
 use Rattle.clients.specs.Fields.{client}
 use Rattle.clients.specs.Known.{has_key, place_of}
-use borrow.Author.Tests.{not-true, not-false}
 use Rattle.clients.proofs.known.find.Goals as goal
 
 pub returns-then-clients-k : goal.returns-then-clients-k
@@ -13,11 +12,11 @@ returns-then-clients-k c =
 pub returns-then-not-has_key : goal.returns-then-not-has_key
 returns-then-not-has_key c =
     let a = c.args in
-    let e : has_key a.key.now (client a.table.now (place_of a.table.now a.id.now)) ≡ false = cc (not-true c.has_key_lem.result c.if-not-has_key.true) in
+    let e : has_key a.key.now (client a.table.now (place_of a.table.now a.id.now)) ≡ false = cc (c.if-not-has_key.true) in
     sym (key-differs a.table.now a.id.now a.key.now e)
 
 pub returns : goal.returns
 returns c =
     let a = c.args in
-    let e : has_key a.key.now (client a.table.now (place_of a.table.now a.id.now)) ≡ true = cc (not-false c.has_key_lem.result c.if-not-has_key.false) in
+    let e : has_key a.key.now (client a.table.now (place_of a.table.now a.id.now)) ≡ true = cc (c.if-not-has_key.false) in
     cc (key-agrees a.table.now a.id.now a.key.now (omega arith) e)

@@ -1,21 +1,20 @@
 use Rattle.std.proofs.Common.{sym, ◌∙◌}
 use Rattle.clients.proofs.Checks.{sound_order}
 use Rattle.clients.specs.Sound.{check_table}
-use borrow.Author.Tests.{not-true, not-false}
 use mathlib.Core.Bool.{and-false}
 use Rattle.clients.proofs.table.check.Goals as goal
 
 pub returns-then-not-length_right : goal.returns-then-not-length_right
 unfolding check_table
-returns-then-not-length_right c = simp (sound_order, sym c.length_right.ensures ∙ not-true _ c.if-not-length_right.true)
+returns-then-not-length_right c = simp (sound_order, sym c.length_right.ensures ∙ c.if-not-length_right.true)
 
 pub returns-then-not-sound_records : goal.returns-then-not-sound_records
 unfolding check_table
-returns-then-not-sound_records c = simp (sound_order, sym c.sound_records.ensures ∙ not-true _ c.if-not-sound_records.true, and-false)
+returns-then-not-sound_records c = simp (sound_order, sym c.sound_records.ensures ∙ c.if-not-sound_records.true, and-false)
 
 pub returns-then-not-ids_distinct : goal.returns-then-not-ids_distinct
 unfolding check_table
-returns-then-not-ids_distinct c = simp (sound_order, sym c.ids_distinct.ensures ∙ not-true _ c.if-not-ids_distinct.true, and-false)
+returns-then-not-ids_distinct c = simp (sound_order, sym c.ids_distinct.ensures ∙ c.if-not-ids_distinct.true, and-false)
 
 pub returns : goal.returns
 unfolding check_table
@@ -24,7 +23,7 @@ returns c =
     let l = r in
     simp (
       sound_order,
-      sym l.length_right.ensures ∙ not-false _ l.if-not-length_right.false,
-      sym r.sound_records.ensures ∙ not-false _ r.if-not-sound_records.false,
-      sym c.ids_distinct.ensures ∙ not-false _ c.if-not-ids_distinct.false,
+      sym l.length_right.ensures ∙ l.if-not-length_right.false,
+      sym r.sound_records.ensures ∙ r.if-not-sound_records.false,
+      sym c.ids_distinct.ensures ∙ c.if-not-ids_distinct.false,
     )

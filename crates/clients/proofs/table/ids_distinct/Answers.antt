@@ -1,14 +1,8 @@
-use Rattle.std.proofs.Common.{ap, arith, drop, false, not, refl, rules, sym, true, ⊎_elim, ◌+◌, ◌<◌, ◌∙◌, ◌≡◌, ◌≤◌}
+use Rattle.std.proofs.Common.{ap, arith, false, not, refl, rules, sym, true, ⊎_elim, ◌∙◌, ◌≡◌}
 use Rattle.clients.proofs.Entries.{clash_hit, clash_miss, clash_end, pairs_hit, pairs_miss, pairs_end}
-use Rattle.clients.specs.Fields.{client, entries}
+use Rattle.clients.specs.Fields.{client}
 use Rattle.clients.specs.Sound.{same_id, ids_distinct}
-use Rattle.octets.specs.Lists.{some}
 use Rattle.clients.proofs.table.ids_distinct.Goals as goal
-
-abbrev invariant_loop : tie.invariant_loop
-invariant_loop table n clash₀ i id j₀ clash j =
-    (some (same_id (client table i)) (drop (i + 1) (entries table)) ≡ some (same_id (client table i)) (drop j (entries table)))
-    × (i < j) × (j ≤ n) × (clash ≡ false)
 
 pub search-init : goal.search-init
 unfolding ids_distinct

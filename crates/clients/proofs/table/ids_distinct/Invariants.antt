@@ -1,8 +1,12 @@
-use Rattle.std.proofs.Common.{drop, false, ◌-◌, ◌≡◌, ◌≤◌}
-use Rattle.clients.specs.Fields.{entries}
+use Rattle.std.proofs.Common.{drop, false, ◌+◌, ◌-◌, ◌<◌, ◌≡◌, ◌≤◌}
+use Rattle.clients.specs.Fields.{client, entries}
 use Rattle.clients.specs.Sound.{same_id, ids_distinct}
-use Rattle.octets.specs.Lists.{apart}
+use Rattle.octets.specs.Lists.{some, apart}
 use Rattle.clients.proofs.table.ids_distinct.Given as goal
+
+abbrev pub invariant-loop-j : goal.invariant-loop-j
+invariant-loop-j l = (some (same_id (client l.table l.i)) (drop (l.i + 1) (entries l.table)) ≡ some (same_id (client l.table l.i)) (drop l.j (entries l.table)))
+    × (l.i < l.j) × (l.j ≤ l.n) × (l.clash ≡ false)
 
 abbrev pub decreases-loop-j : goal.decreases-loop-j
 decreases-loop-j l = l.n - l.j

@@ -1,14 +1,13 @@
 use Rattle.std.proofs.Common.{sym}
 use Rattle.ledger.specs.Checks.{is_reference}
-use borrow.Author.Tests.{not-true, not-false}
 use Rattle.finding.proofs.record.is_reference.Goals as goal
 
 pub returns-then-not-is_in : goal.returns-then-not-is_in
 unfolding is_reference
-returns-then-not-is_in c = simp (sym c.is_in.ensures, not-true c.is_in.result c.if-not-is_in.true)
+returns-then-not-is_in c = simp (sym c.is_in.ensures, c.if-not-is_in.true)
 
 pub returns : goal.returns
 unfolding is_reference
 returns c =
     let e1 = c in
-    simp (sym e1.is_in.ensures, not-false e1.is_in.result e1.if-not-is_in.false, sym c.is_with.ensures)
+    simp (sym e1.is_in.ensures, e1.if-not-is_in.false, sym c.is_with.ensures)

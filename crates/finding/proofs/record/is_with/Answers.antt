@@ -1,11 +1,10 @@
 use Rattle.std.proofs.Common.{sym}
 use Rattle.ledger.specs.Checks.{is_with}
-use borrow.Author.Tests.{not-true, not-false}
 use Rattle.finding.proofs.record.is_with.Goals as goal
 
 pub returns-then-not-same : goal.returns-then-not-same
 unfolding is_with
-returns-then-not-same c = simp (sym c.value.ensures, sym c.same.ensures, not-true c.same.result c.if-not-same.true)
+returns-then-not-same c = simp (sym c.value.ensures, sym c.same.ensures, c.if-not-same.true)
 
 pub returns : goal.returns
 unfolding is_with
@@ -14,7 +13,7 @@ returns c =
     simp (
       sym e1.value.ensures,
       sym e1.same.ensures,
-      not-false e1.same.result e1.if-not-same.false,
+      e1.if-not-same.false,
       sym c.client.ensures,
       sym c.same-2.ensures,
     )

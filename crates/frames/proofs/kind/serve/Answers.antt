@@ -30,15 +30,15 @@ returns-in-Start c =
     let a = c.args in
     let q = c.start-w in (
       rw c.with.ensures.1.1 q.ensures.0,
-      by_kind Start _ a.ledger-1.now a.table-1.now (desk_in a.n a.m a.ledger-1.now a.table-1.now) (sym c.kind_of.ensures.0 ∙ c.enum_told-1.given.1)
-          (on_ledger_lem a.ledger-1.now a.table-1.now a.n a.m (omega arith) (omega arith) _ c.with.ensures.0 c.with.ensures.1.0 (ap (λ (k : ℕ). take k q.new.1.1.1.0) c.with.ensures.1.1) q.ensures.1),
+      by_kind Start _ a.ledger.now a.table.now (desk_in a.n a.m a.ledger.now a.table.now) (sym c.kind_of.ensures.0 ∙ c.enum_told-1.given.1)
+          (on_ledger_lem a.ledger.now a.table.now a.n a.m (omega arith) (omega arith) _ c.with.ensures.0 c.with.ensures.1.0 (ap (λ (k : ℕ). take k q.new.1.1.1.0) c.with.ensures.1.1) q.ensures.1),
     )
 
 pub returns-in-Push : goal.returns-in-Push
 returns-in-Push c =
     let a = c.args in (
       c.on_ledger.ensures.0,
-      by_kind Push _ a.ledger-1.now a.table-1.now (desk_in a.n a.m a.ledger-1.now a.table-1.now) (sym c.kind_of.ensures.0 ∙ c.enum_told-in-Push-1.given.1)
+      by_kind Push _ a.ledger.now a.table.now (desk_in a.n a.m a.ledger.now a.table.now) (sym c.kind_of.ensures.0 ∙ c.enum_told-in-Push-1.given.1)
           c.on_ledger.ensures.1,
     )
 
@@ -46,7 +46,7 @@ pub returns-in-Decide : goal.returns-in-Decide
 returns-in-Decide c =
     let a = c.args in (
       c.on_ledger-in-Decide.ensures.0,
-      by_kind Decide _ a.ledger-1.now a.table-1.now (desk_in a.n a.m a.ledger-1.now a.table-1.now) (sym c.kind_of.ensures.0 ∙ c.enum_told-in-Decide-1.given.1)
+      by_kind Decide _ a.ledger.now a.table.now (desk_in a.n a.m a.ledger.now a.table.now) (sym c.kind_of.ensures.0 ∙ c.enum_told-in-Decide-1.given.1)
           c.on_ledger-in-Decide.ensures.1,
     )
 
@@ -54,7 +54,7 @@ pub returns-in-Token : goal.returns-in-Token
 returns-in-Token c =
     let a = c.args in (
       c.on_ledger-in-Token.ensures.0,
-      by_kind Token _ a.ledger-1.now a.table-1.now (desk_in a.n a.m a.ledger-1.now a.table-1.now) (sym c.kind_of.ensures.0 ∙ c.enum_told-in-Token-1.given.1)
+      by_kind Token _ a.ledger.now a.table.now (desk_in a.n a.m a.ledger.now a.table.now) (sym c.kind_of.ensures.0 ∙ c.enum_told-in-Token-1.given.1)
           c.on_ledger-in-Token.ensures.1,
     )
 
@@ -62,7 +62,7 @@ pub returns-in-Resource : goal.returns-in-Resource
 returns-in-Resource c =
     let a = c.args in (
       c.on_ledger-in-Resource.ensures.0,
-      by_kind Resource _ a.ledger-1.now a.table-1.now (desk_in a.n a.m a.ledger-1.now a.table-1.now) (sym c.kind_of.ensures.0 ∙ c.enum_told-in-Resource-1.given.1)
+      by_kind Resource _ a.ledger.now a.table.now (desk_in a.n a.m a.ledger.now a.table.now) (sym c.kind_of.ensures.0 ∙ c.enum_told-in-Resource-1.given.1)
           c.on_ledger-in-Resource.ensures.1,
     )
 
@@ -70,7 +70,7 @@ pub returns-in-Sweep : goal.returns-in-Sweep
 returns-in-Sweep c =
     let a = c.args in (
       c.on_ledger-in-Sweep.ensures.0,
-      by_kind Sweep _ a.ledger-1.now a.table-1.now (desk_in a.n a.m a.ledger-1.now a.table-1.now) (sym c.kind_of.ensures.0 ∙ c.enum_told-in-Sweep-1.given.1)
+      by_kind Sweep _ a.ledger.now a.table.now (desk_in a.n a.m a.ledger.now a.table.now) (sym c.kind_of.ensures.0 ∙ c.enum_told-in-Sweep-1.given.1)
           c.on_ledger-in-Sweep.ensures.1,
     )
 
@@ -79,8 +79,8 @@ returns-in-Client c =
     let a = c.args in
     let q = c.append-w in (
       rw c.with-in-Client.ensures.1.1 q.ensures.0,
-      by_kind Client _ a.ledger-1.now a.table-1.now (desk_in a.n a.m a.ledger-1.now a.table-1.now) (sym c.kind_of.ensures.0 ∙ c.enum_told-in-Client-1.given.1)
-          (on_table_lem a.ledger-1.now a.table-1.now a.n a.m (omega arith) (omega arith) _ c.with-in-Client.ensures.0 c.with-in-Client.ensures.1.0 (ap (λ (k : ℕ). take k q.new.1.1.1.0) c.with-in-Client.ensures.1.1) q.ensures.1),
+      by_kind Client _ a.ledger.now a.table.now (desk_in a.n a.m a.ledger.now a.table.now) (sym c.kind_of.ensures.0 ∙ c.enum_told-in-Client-1.given.1)
+          (on_table_lem a.ledger.now a.table.now a.n a.m (omega arith) (omega arith) _ c.with-in-Client.ensures.0 c.with-in-Client.ensures.1.0 (ap (λ (k : ℕ). take k q.new.1.1.1.0) c.with-in-Client.ensures.1.1) q.ensures.1),
     )
 
 pub returns-in-NoFrame : goal.returns-in-NoFrame
@@ -88,6 +88,6 @@ returns-in-NoFrame c =
     let a = c.args in
     let q = c.write_number-count in (
       search rules,
-      by_kind NoFrame _ a.ledger-1.now a.table-1.now (desk_in a.n a.m a.ledger-1.now a.table-1.now) (sym c.kind_of.ensures.0 ∙ c.enum_told-in-NoFrame-1.given.1)
-          (at_none _ a.ledger-1.now a.table-1.now a.n a.m (omega arith) (omega arith) refl c.with-in-NoFrame.ensures.0 c.with-in-NoFrame.ensures.1.0 (ap (λ (k : ℕ). take k q.new.0) c.with-in-NoFrame.ensures.1.1) q.ensures.1),
+      by_kind NoFrame _ a.ledger.now a.table.now (desk_in a.n a.m a.ledger.now a.table.now) (sym c.kind_of.ensures.0 ∙ c.enum_told-in-NoFrame-1.given.1)
+          (at_none _ a.ledger.now a.table.now a.n a.m (omega arith) (omega arith) refl c.with-in-NoFrame.ensures.0 c.with-in-NoFrame.ensures.1.0 (ap (λ (k : ℕ). take k q.new.0) c.with-in-NoFrame.ensures.1.1) q.ensures.1),
     )

@@ -1,23 +1,22 @@
 use Rattle.std.proofs.Common.{arith, sym, ◌∙◌}
 use Rattle.frames.proofs.Fitting.{fitting_is, answer_fits, answer_misfit, told_none}
-use borrow.Author.Tests.{not-true, not-false}
 use Rattle.frames.proofs.line.answer.Goals as goal
 
 pub returns-then-not-fitting : goal.returns-then-not-fitting
 returns-then-not-fitting c =
     let a = c.args in (
       told_none c.with.ensures.0 c.with.ensures.1.0 c.with.ensures.1.1
-          ∙ sym (answer_misfit a.n a.m a.ledger-1.now a.table-1.now a.out-1.now a.line.now (sym c.fitting.ensures ∙ not-true _ c.if-not-fitting.true)),
+          ∙ sym (answer_misfit a.n a.m a.ledger.now a.table.now a.out.now a.line.now (sym c.fitting.ensures ∙ c.if-not-fitting.true)),
       omega arith,
     )
 
 pub answer_fitting-requires : goal.answer_fitting-requires
-answer_fitting-requires c = fitting_is _ _ _ _ _ (sym c.fitting.ensures ∙ not-false _ c.if-not-fitting.false)
+answer_fitting-requires c = fitting_is _ _ _ _ _ (sym c.fitting.ensures ∙ c.if-not-fitting.false)
 
 pub returns : goal.returns
 returns c =
     let a = c.args in
     let r = c.answer_fitting in (
-      r.ensures.1 ∙ sym (answer_fits a.n a.m a.ledger-1.now a.table-1.now a.out-1.now a.line.now (sym c.fitting.ensures ∙ not-false _ c.if-not-fitting.false)),
+      r.ensures.1 ∙ sym (answer_fits a.n a.m a.ledger.now a.table.now a.out.now a.line.now (sym c.fitting.ensures ∙ c.if-not-fitting.false)),
       r.ensures.0,
     )

@@ -14,7 +14,7 @@ returns c =
     let r = c.serve_line-r in
     let o = r.new.1.1.1.1.1.0 in
     let k : length (take r.result.count o) ≡ r.result.count = length-take-le r.result.count o (omega arith) in
-    let e : c.with.result.count ≤ length a.out-1.now = omega (arith, c.with.ensures.1.1, r.ensures.0, c.requires.1) in (
+    let e : c.with.result.count ≤ length a.out.now = omega (arith, c.with.ensures.1.1, r.ensures.0, c.requires.1) in (
       e,
-      told _ (take r.result.count o) a.out-1.now r.ensures.1 c.write_line.ensures c.with.ensures.0 c.with.ensures.1.0 (omega arith),
+      told _ (take r.result.count o) a.out.now r.ensures.1 c.write_line.ensures c.with.ensures.0 c.with.ensures.1.0 (omega arith),
     )

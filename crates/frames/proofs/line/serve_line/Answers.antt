@@ -5,7 +5,6 @@ use Rattle.frames.proofs.Lines.{front_decoded}
 use Rattle.frames.specs.Hold.{desk_in, place}
 use Rattle.wire.specs.Kinds.{kind_of}
 use Rattle.frames.specs.Serve.{Served, serve}
-use borrow.Author.Tests.{not-true, not-false}
 use Rattle.texts.specs.Hex.{is_hex}
 use Rattle.frames.specs.Limits.{line_most}
 use Rattle.frames.proofs.line.serve_line.Goals as goal
@@ -15,7 +14,7 @@ returns-then-line-gt-MOST c =
     let a = c.args in
     let q = c.write_number-count in (
       search rules,
-      at_none _ a.ledger-1.now a.table-1.now a.n a.m (omega arith) (omega arith) (line_long a.line.now (desk_in a.n a.m a.ledger-1.now a.table-1.now) (omega arith))
+      at_none _ a.ledger.now a.table.now a.n a.m (omega arith) (omega arith) (line_long a.line.now (desk_in a.n a.m a.ledger.now a.table.now) (omega arith))
           c.with.ensures.0 c.with.ensures.1.0 (ap (λ (k : ℕ). take k q.new.0) c.with.ensures.1.1) q.ensures.1,
     )
 
@@ -25,8 +24,8 @@ returns-then-not-decode c =
     let d = c.decode in
     let q = c.write_number-count-then-not-decode in (
       search rules,
-      at_none _ a.ledger-1.now a.table-1.now a.n a.m (omega arith) (omega arith)
-          (line_other a.line.now (desk_in a.n a.m a.ledger-1.now a.table-1.now) (sym d.ensures.0 ∙ not-true d.result c.if-not-decode.true))
+      at_none _ a.ledger.now a.table.now a.n a.m (omega arith) (omega arith)
+          (line_other a.line.now (desk_in a.n a.m a.ledger.now a.table.now) (sym d.ensures.0 ∙ c.if-not-decode.true))
           c.with-then-not-decode.ensures.0 c.with-then-not-decode.ensures.1.0 (ap (λ (k : ℕ). take k q.new.0) c.with-then-not-decode.ensures.1.1) q.ensures.1,
     )
 
@@ -38,10 +37,10 @@ returns c =
     let a = c.args in
     let q = c in
     let d = c.decode in
-    let desk = desk_in a.n a.m a.ledger-1.now a.table-1.now in
-    let h : is_hex a.line.now ≡ true = sym d.ensures.0 ∙ not-false d.result c.if-not-decode.false in
+    let desk = desk_in a.n a.m a.ledger.now a.table.now in
+    let h : is_hex a.line.now ≡ true = sym d.ensures.0 ∙ c.if-not-decode.false in
     let m : length a.line.now ≤ line_most = omega arith in (
       q.serve.ensures.0,
-      q.serve.ensures.1 ∙ ap (λ (f : List ℕ). place (serve (kind_of f) f desk) a.ledger-1.now a.table-1.now) (front_decoded a.line.now (replicate 320 0) h m d.ensures.1)
-          ∙ ap (λ (s : Served). place s a.ledger-1.now a.table-1.now) (sym (line_bytes a.line.now desk m h)),
+      q.serve.ensures.1 ∙ ap (λ (f : List ℕ). place (serve (kind_of f) f desk) a.ledger.now a.table.now) (front_decoded a.line.now (replicate 320 0) h m d.ensures.1)
+          ∙ ap (λ (s : Served). place s a.ledger.now a.table.now) (sym (line_bytes a.line.now desk m h)),
     )

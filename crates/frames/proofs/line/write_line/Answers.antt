@@ -19,4 +19,4 @@ pub returns : goal.returns
 returns c =
     let a = c.args in
     let q = c.write-end.ensures in
-    written a.bytes.now a.out-1.now (omega arith) q.0 q.1
+    written a.bytes.now a.out.now (omega arith) q.0 q.1

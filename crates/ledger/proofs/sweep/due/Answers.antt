@@ -1,12 +1,12 @@
 use Rattle.std.proofs.Common.{arith, le-leb, sym, ◌∙◌}
 use Rattle.ledger.specs.Sweep.{due}
-use borrow.Author.Tests.{lt-leb, not-true, not-false}
+use borrow.Author.Tests.{lt-leb}
 use mathlib.Core.Bool.{and-false}
 use Rattle.ledger.proofs.sweep.due.Goals as goal
 
 pub returns-then-not-is_in : goal.returns-then-not-is_in
 unfolding due
-returns-then-not-is_in c = let e = sym c.is_in.ensures ∙ not-true c.is_in.result c.if-not-is_in.true in (rw e, omega arith)
+returns-then-not-is_in c = let e = sym c.is_in.ensures ∙ c.if-not-is_in.true in (rw e, omega arith)
 
 pub returns-then-time-expiry : goal.returns-then-time-expiry
 unfolding due
@@ -17,5 +17,5 @@ unfolding due
 returns c =
     let e1 = c in
     let e = le-leb _ _ (rw c.expiry.ensures at c.if-time-expiry.false) in
-    let f = sym e1.is_in.ensures ∙ not-false e1.is_in.result e1.if-not-is_in.false in
+    let f = sym e1.is_in.ensures ∙ e1.if-not-is_in.false in
     (rw (f, e), omega arith)

@@ -19,14 +19,14 @@ returns-then-is_due c =
     let d = b in
     let e = d in
     let a = e.args in
-    lent_back a.l-1.now a.k b.address-a.result e.requires (omega arith) b.address-a.ensures c.clear.new.0
-    ∙ swept_freed a.time a.l-1.now a.k _ _ e.requires
+    lent_back a.l.now a.k b.address-a.result e.requires (omega arith) b.address-a.ensures c.clear.new.0
+    ∙ swept_freed a.time a.l.now a.k _ _ e.requires
     (rw d.at.ensures at (sym d.is_due.ensures ∙ b.if-is_due.true))
-    (lent_out a.l-1.now a.k b.address-a.result e.requires (omega arith) b.address-a.ensures)
+    (lent_out a.l.now a.k b.address-a.result e.requires (omega arith) b.address-a.ensures)
     c.clear.ensures
 
 pub returns-else-is_due : goal.returns-else-is_due
 returns-else-is_due c =
     let d = c in
     let a = d.args in
-    swept_kept a.time a.l-1.now a.k (rw d.at.ensures at (sym d.is_due.ensures ∙ c.if-is_due.false))
+    swept_kept a.time a.l.now a.k (rw d.at.ensures at (sym d.is_due.ensures ∙ c.if-is_due.false))

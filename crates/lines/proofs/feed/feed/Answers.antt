@@ -1,13 +1,8 @@
 use Rattle.std.proofs.Common.{leb-false, leb-true, sym, ◌∙◌}
 use Rattle.lines.proofs.Feeding.{to_fits}
-use Rattle.lines.proofs.Going.{Going, going_none, going_more, going_all, going_full, unfed}
+use Rattle.lines.proofs.Going.{going_none, going_more, going_all, going_full, unfed}
 use Rattle.lines.specs.Turn.{Held, held}
-use borrow.Author.Tests.{not-true, not-false}
 use Rattle.lines.proofs.feed.feed.Goals as goal
-
-abbrev invariant_loop : tie.invariant_loop
-invariant_loop input line₀ ledger₀ table₀ out₀ state₀ filled₀ at₀ line ledger table out state filled at =
-    Going (held state₀ line₀ ledger₀ table₀) out₀ input (held state line ledger table) filled at out
 
 abbrev kept : tie.Start invariant_loop decreases_loop → Held
 kept c = held c.args.s c.args.line.now c.args.ledger.now c.args.table.now
@@ -18,14 +13,14 @@ returns-then-not-fits c =
     let b = p in
     let n = c.nothing.ensures in
     unfed (kept b) b.args.out.now n.0 n.1.0 n.1.1 b.args.input.now
-    (sym p.fits2.ensures ∙ not-true p.fits2.result c.if-not-fits.true)
+    (sym p.fits2.ensures ∙ c.if-not-fits.true)
 
 pub loop-at-init : goal.loop-at-init
 loop-at-init c =
     let p = c in
     let b = p in
     going_none (kept b) b.args.out.now b.args.input.now
-    (sym p.fits2.ensures ∙ not-false p.fits2.result c.if-not-fits.false)
+    (sym p.fits2.ensures ∙ c.if-not-fits.false)
 
 pub turn-t-requires : goal.turn-t-requires
 turn-t-requires c =

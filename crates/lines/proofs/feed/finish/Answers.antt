@@ -1,14 +1,13 @@
 use Rattle.std.proofs.Common.{arith, sym, true, ◌∙◌, ◌≡◌}
 use Rattle.lines.proofs.Going.{unfitting, unbegun, roomless, finished}
 use Rattle.lines.specs.Turn.{Held, held, fits}
-use borrow.Author.Tests.{not-true, not-false}
 use Rattle.lines.proofs.feed.finish.Goals as goal
 
 abbrev kept : tie.Start → Held
 kept c = held c.args.s c.args.line.now c.args.ledger.now c.args.table.now
 
 fitting : (c : tie.Else1) → fits (kept c) ≡ true
-fitting c = sym c.fits2.ensures ∙ not-false c.fits2.result c.if-not-fits.false
+fitting c = sym c.fits2.ensures ∙ c.if-not-fits.false
 
 pub returns-then-not-fits : goal.returns-then-not-fits
 returns-then-not-fits c =
@@ -16,7 +15,7 @@ returns-then-not-fits c =
     let b = p in
     let n = c.nothing.ensures in
     unfitting (kept b) b.args.out.now n.0 n.1.0 n.1.1
-    (sym p.fits2.ensures ∙ not-true p.fits2.result c.if-not-fits.true)
+    (sym p.fits2.ensures ∙ c.if-not-fits.true)
 
 pub returns-then-s-eq0 : goal.returns-then-s-eq0
 returns-then-s-eq0 c =

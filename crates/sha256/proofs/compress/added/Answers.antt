@@ -1,4 +1,6 @@
+use Rattle.sha256.specs.Hash.{added}
 use Rattle.sha256.proofs.compress.added.Goals as goal
 
 pub returns : goal.returns
+unfolding added
 returns c = cc

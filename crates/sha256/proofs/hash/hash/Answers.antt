@@ -10,7 +10,7 @@ loop-k-init c = (omega (arith, blocks_of c.args.m.now), c.whole-h.ensures)
 pub loop-k-preserved : goal.loop-k-preserved
 loop-k-preserved c =
     let i = c.loop-k in
-    (search rules, hash_more _ i.h-1 _ _ i.k i.invariant.1 c.block-b.ensures c.compress-h.ensures)
+    (search rules, hash_more _ i.h _ _ i.k i.invariant.1 c.block-b.ensures c.compress-h.ensures)
 
 pub returns : goal.returns
 returns c =

@@ -14,7 +14,7 @@ compress-h-requires c = length_block _ c.loop-k.k (omega arith)
 pub loop-k-preserved : goal.loop-k-preserved
 loop-k-preserved c =
     let i = c.loop-k in
-    (search rules, hash_more _ i.h-1 _ _ i.k i.invariant.1 (pad_block _ i.k (omega arith)) c.compress-h.ensures)
+    (search rules, hash_more _ i.h _ _ i.k i.invariant.1 (pad_block _ i.k (omega arith)) c.compress-h.ensures)
 
 pub returns : goal.returns
 returns c =

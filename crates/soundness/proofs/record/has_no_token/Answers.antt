@@ -1,14 +1,13 @@
 use Rattle.std.proofs.Common.{sym, ◌∙◌}
 use Rattle.ledger.specs.Sound.{no_token}
-use borrow.Author.Tests.{not-true, not-false}
 use Rattle.soundness.proofs.record.has_no_token.Goals as goal
 
 pub returns-then-not-is_zero : goal.returns-then-not-is_zero
 unfolding no_token
-returns-then-not-is_zero c = simp (sym c.is_zero.ensures ∙ not-true c.is_zero.result c.if-not-is_zero.true)
+returns-then-not-is_zero c = simp (sym c.is_zero.ensures ∙ c.if-not-is_zero.true)
 
 pub returns : goal.returns
 unfolding no_token
 returns c =
     let e1 = c in
-    simp (sym e1.is_zero.ensures ∙ not-false e1.is_zero.result e1.if-not-is_zero.false) c.is_zero-2.ensures
+    simp (sym e1.is_zero.ensures ∙ e1.if-not-is_zero.false) c.is_zero-2.ensures

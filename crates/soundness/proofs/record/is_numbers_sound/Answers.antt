@@ -1,16 +1,16 @@
 use Rattle.std.proofs.Common.{eq-eqb, le-leb, le-ltb, lt-ltb, ne_eqb, sym, ◌∙◌}
 use Rattle.ledger.specs.Sound.{numbers_sound}
-use borrow.Author.Tests.{lt-leb, not-true, not-false}
+use borrow.Author.Tests.{lt-leb}
 use mathlib.Core.Bool.{and-false}
 use Rattle.soundness.proofs.record.is_numbers_sound.Goals as goal
 
 pub returns-then-not-is_zero : goal.returns-then-not-is_zero
 unfolding numbers_sound
-returns-then-not-is_zero c = simp (sym c.is_zero.ensures ∙ not-true c.is_zero.result c.if-not-is_zero.true)
+returns-then-not-is_zero c = simp (sym c.is_zero.ensures ∙ c.if-not-is_zero.true)
 
 pub returns-then-not-is_zero-2 : goal.returns-then-not-is_zero-2
 unfolding numbers_sound
-returns-then-not-is_zero-2 c = simp (sym c.is_zero-2.ensures ∙ not-true c.is_zero-2.result c.if-not-is_zero-2.true, and-false)
+returns-then-not-is_zero-2 c = simp (sym c.is_zero-2.ensures ∙ c.if-not-is_zero-2.true, and-false)
 
 pub returns-then-number-lt1 : goal.returns-then-number-lt1
 unfolding numbers_sound
@@ -33,8 +33,8 @@ returns c =
     let e2 = e3 in
     let e1 = e2 in
     simp (
-      sym e1.is_zero.ensures ∙ not-false e1.is_zero.result e1.if-not-is_zero.false,
-      sym e2.is_zero-2.ensures ∙ not-false e2.is_zero-2.result e2.if-not-is_zero-2.false,
+      sym e1.is_zero.ensures ∙ e1.if-not-is_zero.false,
+      sym e2.is_zero-2.ensures ∙ e2.if-not-is_zero-2.false,
       sym e3.grant-number.ensures,
       le-leb _ _ e3.if-number-lt1.false,
       lt-ltb _ _ e4.if-next-number.false,

@@ -1,10 +1,9 @@
 use Rattle.std.proofs.Common.{eq-eqb, ne_eqb, sym, ◌∙◌}
-use borrow.Author.Tests.{not-true, not-false}
 use mathlib.Core.Bool.{and-false}
 use Rattle.soundness.proofs.record.is_redeemed_sound.Goals as goal
 
 pub returns-then-not-is_used_sound : goal.returns-then-not-is_used_sound
-returns-then-not-is_used_sound c = simp (sym c.is_used_sound.ensures ∙ not-true c.is_used_sound.result c.if-not-is_used_sound.true)
+returns-then-not-is_used_sound c = simp (sym c.is_used_sound.ensures ∙ c.if-not-is_used_sound.true)
 
 pub returns-then-holder-eq0 : goal.returns-then-holder-eq0
 returns-then-holder-eq0 c = simp (sym c.holder.ensures, eq-eqb _ _ c.if-holder-eq0.true, and-false)
@@ -14,7 +13,7 @@ returns c =
     let e2 = c in
     let e1 = e2 in
     simp (
-      sym e1.is_used_sound.ensures ∙ not-false e1.is_used_sound.result e1.if-not-is_used_sound.false,
+      sym e1.is_used_sound.ensures ∙ e1.if-not-is_used_sound.false,
       sym e2.holder.ensures,
       ne_eqb _ _ e2.if-holder-eq0.false,
     ) c.has_token.ensures

@@ -1,14 +1,13 @@
 use Rattle.std.proofs.Common.{sym, ◌∙◌}
 use Rattle.ledger.specs.Sound.{used_sound}
-use borrow.Author.Tests.{not-true, not-false}
 use Rattle.soundness.proofs.record.is_used_sound.Goals as goal
 
 pub returns-then-not-is_numbers_sound : goal.returns-then-not-is_numbers_sound
 unfolding used_sound
-returns-then-not-is_numbers_sound c = simp (sym c.is_numbers_sound.ensures ∙ not-true c.is_numbers_sound.result c.if-not-is_numbers_sound.true)
+returns-then-not-is_numbers_sound c = simp (sym c.is_numbers_sound.ensures ∙ c.if-not-is_numbers_sound.true)
 
 pub returns : goal.returns
 unfolding used_sound
 returns c =
     let e1 = c in
-    simp (sym e1.is_numbers_sound.ensures ∙ not-false e1.is_numbers_sound.result e1.if-not-is_numbers_sound.false) c.is_bytes_sound.ensures
+    simp (sym e1.is_numbers_sound.ensures ∙ e1.if-not-is_numbers_sound.false) c.is_bytes_sound.ensures

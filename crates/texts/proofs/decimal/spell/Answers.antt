@@ -17,4 +17,5 @@ shape_of-text c =
     let l = c.loop-rest in
     length-set l.text (l.at - 1) c.glyph-2.result ∙ l.invariant.sized ∙ sym c.requires
 
--- INLINE (λ c. spelled_none _ _ (search rules) (search rules))
+pub loop-rest-init : goal.loop-rest-init
+loop-rest-init c = spelled_none _ _ (search rules) (search rules)

@@ -1,18 +1,17 @@
 use Rattle.std.proofs.Common.{sym, ◌∙◌}
 use Rattle.texts.proofs.Hexes.{over_hex, over_other}
-use borrow.Author.Tests.{not-true, not-false}
 use Rattle.texts.proofs.hex.decode.Goals as goal
 
 pub returns-then-not-is_hex : goal.returns-then-not-is_hex
 returns-then-not-is_hex c =
-    let e = sym c.is_hex.ensures ∙ not-true c.is_hex.result c.if-not-is_hex.true in
+    let e = sym c.is_hex.ensures ∙ c.if-not-is_hex.true in
     (sym e, sym (over_other _ _ e))
 
 pub read-requires : goal.read-requires
-read-requires c = sym c.is_hex.ensures ∙ not-false c.is_hex.result c.if-not-is_hex.false
+read-requires c = sym c.is_hex.ensures ∙ c.if-not-is_hex.false
 
 pub returns : goal.returns
 returns c =
     let q = c in
-    let e = sym q.is_hex.ensures ∙ not-false q.is_hex.result q.if-not-is_hex.false in
+    let e = sym q.is_hex.ensures ∙ q.if-not-is_hex.false in
     (sym e, c.read.ensures ∙ sym (over_hex _ _ e))

@@ -1,12 +1,8 @@
-use Rattle.std.proofs.Common.{arith, drop, length, length-set, refl, rules, sym, take, ◌∙◌, ◌≡◌, ◌≤◌}
+use Rattle.std.proofs.Common.{arith, length-set, refl, rules, sym, ◌∙◌}
 use Rattle.octets.proofs.Parts.{front_more, front_laid}
 use Rattle.texts.proofs.Hexes.{length_decoded, decoded_at}
 use Rattle.texts.specs.Hex.{decoded}
 use Rattle.texts.proofs.hex.read.Goals as goal
-
-abbrev invariant_loop : tie.invariant_loop
-invariant_loop out₀ text n i₀ out i =
-    (i ≤ n) × (length out ≡ length out₀) × (take i out ≡ take i (decoded text)) × (drop i out ≡ drop i out₀)
 
 pub pair_at-requires : goal.pair_at-requires
 pair_at-requires c = (search rules, omega arith)
@@ -27,4 +23,5 @@ returns c =
     let n = length_decoded a.text.now in
     front_laid (decoded a.text.now) a.out.now l.out l.i (omega arith) l.invariant.2 l.invariant.3
 
--- INLINE (λ c. (search rules, refl, refl, refl))
+pub loop-i-init : goal.loop-i-init
+loop-i-init c = (search rules, refl, refl, refl)
