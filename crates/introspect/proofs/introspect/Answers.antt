@@ -9,7 +9,7 @@ use Rattle.desk.specs.declared.answer.Introspected.{Introspected}
 use Rattle.description.specs.Writing.{written, written_over}
 use Rattle.description.specs.declared.Written.{Written}
 use Rattle.description.specs.declared.Written.TheVariants.{Length, Short}
-use Rattle.introspect.proofs.Texts.{short_told, short_stays, long-told, long-is, long-over}
+use Rattle.introspect.proofs.Texts.{short_told, short_stays, long_told, long_is, long_over}
 use Rattle.ledger.proofs.Tests.{sound_told, time_told}
 use Rattle.introspect.proofs.introspect.Goals as goal
 
@@ -69,8 +69,8 @@ module _ (s : tie.Start) (a : Written) (x : List ℕ) (wrote : (a ≡ written (t
   unfolding introspect_checks introspect_with
   long-enough n e h =
       let w = sym wrote.0 ∙ e in
-      let y = acceptance s (passes 2 (checks s) t (long-told (text s) (out s) n w)) in
-      rw (h, wrote.1, long-over (text s) (out s) n w, long-is (text s) (out s) n w) (sym y)
+      let y = acceptance s (passes 2 (checks s) t (long_told (text s) (out s) n w)) in
+      rw (h, wrote.1, long_over (text s) (out s) n w, long_is (text s) (out s) n w) (sym y)
 
 -- ---- the returns
 

@@ -1,8 +1,9 @@
-use Rattle.std.proofs.Common.{ap, arith, false, not, refl, rules, sym, true, ⊎_elim, ◌∙◌, ◌≡◌}
+use Rattle.std.proofs.Common.{ap, arith, false, not, refl, rules, sym, true, ◌∙◌, ◌≡◌}
 use Rattle.clients.proofs.Entries.{clash_hit, clash_miss, clash_end, pairs_hit, pairs_miss, pairs_end}
 use Rattle.clients.specs.Fields.{client}
 use Rattle.clients.specs.Sound.{same_id, ids_distinct}
 use Rattle.clients.proofs.table.ids_distinct.Goals as goal
+use Rattle.clients.proofs.table.ids_distinct.Goals.{else-search-test, then-search-test+then-loop-j-test+then-same}
 
 pub search-init : goal.search-init
 unfolding ids_distinct
@@ -33,10 +34,11 @@ unfolding same_id
 returns c =
     let s = c.search in
     let t = c.args.table.now in
-    ⊎_elim
-    (λ w. ap not (w.1 ∙ s.invariant.1) ∙ sym (s.invariant.2 ∙ pairs_end t s.i (omega arith) same_id))
-    (λ w.
-    let e : same_id (client t s.i) (client t w.2.j) ≡ true = cc in
-    ap not w.7
-    ∙ sym (s.invariant.2 ∙ pairs_hit t s.i (omega arith) same_id (w.2.inv.0 ∙ clash_hit t w.2.j (omega arith) (same_id (client t s.i)) e)))
-    c.search-test.branch
+    elim c.search-test.branch [
+      else-search-test w ↦ ap not (w.clash-is ∙ s.invariant.1) ∙ sym (s.invariant.2 ∙ pairs_end t s.i (omega arith) same_id)
+    | then-search-test+then-loop-j-test+then-same w ↦
+        let j = w.loop-j.j in
+        let e : same_id (client t s.i) (client t j) ≡ true = cc in
+        ap not w.clash-is
+        ∙ sym (s.invariant.2 ∙ pairs_hit t s.i (omega arith) same_id (w.loop-j.invariant.0 ∙ clash_hit t j (omega arith) (same_id (client t s.i)) e))
+    ]

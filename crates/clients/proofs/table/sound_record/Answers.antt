@@ -13,7 +13,7 @@ returns-then-is_zero-2 c = simp (sym c.cut-2.ensures, sym c.is_zero-2.ensures �
 
 pub returns-then-not-fits : goal.returns-then-not-fits
 unfolding sound_record
-returns-then-not-fits c = simp (sym c.fits2.ensures ∙ c.if-not-fits.true, and-false)
+returns-then-not-fits c = simp (sym c.fits.ensures ∙ c.if-not-fits.true, and-false)
 
 pub returns : goal.returns
 unfolding sound_record id_given key_given rest_zero
@@ -26,7 +26,7 @@ returns c =
       sym i.is_zero.ensures ∙ i.if-is_zero.false,
       sym k.cut-2.ensures,
       sym k.is_zero-2.ensures ∙ k.if-is_zero-2.false,
-      sym f.fits2.ensures ∙ f.if-not-fits.false,
+      sym f.fits.ensures ∙ f.if-not-fits.false,
       sym c.cut-3.ensures,
     )
     c.is_zero-3.ensures

@@ -19,7 +19,7 @@ returns-then-is_due c =
     let d = b in
     let e = d in
     let a = e.args in
-    lent_back a.l.now a.k b.address-a.result e.requires (omega arith) b.address-a.ensures c.clear.new.0
+    lent_back a.l.now a.k b.address-a.result e.requires (omega arith) b.address-a.ensures c.clear.new.s
     ∙ swept_freed a.time a.l.now a.k _ _ e.requires
     (rw d.at.ensures at (sym d.is_due.ensures ∙ b.if-is_due.true))
     (lent_out a.l.now a.k b.address-a.result e.requires (omega arith) b.address-a.ensures)

@@ -1,4 +1,4 @@
-use Rattle.std.proofs.Common.{ap, ℕ, ◌∙◌, ◌∷◌}
+use Rattle.std.proofs.Common.{ap, ℕ, [], ◌∙◌, ◌∷◌}
 use Rattle.octets.specs.Parts.{put}
 use Rattle.ledger.proofs.write.set_state.Goals as goal
 

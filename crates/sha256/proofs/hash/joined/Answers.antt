@@ -10,4 +10,4 @@ pub loop-i-preserved : goal.loop-i-preserved
 loop-i-preserved c = let i = c.loop-i in filled_more _ 32 i.out i.i _ i.invariant (search rules) c.byte_of.ensures
 
 pub returns : goal.returns
-returns c = let i = c.loop-i in filled_all _ 32 i.out i.i i.invariant (search rules) ∙ joined_table c.args.t1 32 (omega arith)
+returns c = let i = c.loop-i in filled_all _ 32 i.out i.i i.invariant (search rules) ∙ joined_table c.args.ws 32 (omega arith)

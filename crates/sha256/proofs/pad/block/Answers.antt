@@ -1,5 +1,5 @@
 use Rattle.std.proofs.Common.{arith, ◌∙◌}
-use Rattle.sha256.proofs.Padding.{blocks_of, block-inner, block_last}
+use Rattle.sha256.proofs.Padding.{blocks_of, block_inner, block_last}
 use Rattle.sha256.proofs.pad.block.Goals as goal
 
 pub overflow_mul-k : goal.overflow_mul-k
@@ -11,7 +11,7 @@ overflow_add-k c = omega (arith, blocks_of c.args.m.now)
 pub returns-then-k-blocks : goal.returns-then-k-blocks
 returns-then-k-blocks c =
     let p = c.args in
-    c.marked-b.ensures ∙ block-inner p.m.now p.k (omega arith) (omega arith)
+    c.marked-b.ensures ∙ block_inner p.m.now p.k (omega arith) (omega arith)
 
 pub returns : goal.returns
 returns c =
