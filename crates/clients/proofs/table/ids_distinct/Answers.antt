@@ -35,10 +35,10 @@ returns c =
     let s = c.search in
     let t = c.args.table.now in
     elim c.search-test.branch [
-      else-search-test w ↦ ap not (w.clash-is ∙ s.invariant.1) ∙ sym (s.invariant.2 ∙ pairs_end t s.i (omega arith) same_id)
-    | then-search-test+then-loop-j-test+then-same w ↦
-        let j = w.loop-j.j in
-        let e : same_id (client t s.i) (client t j) ≡ true = cc in
-        ap not w.clash-is
-        ∙ sym (s.invariant.2 ∙ pairs_hit t s.i (omega arith) same_id (w.loop-j.invariant.0 ∙ clash_hit t j (omega arith) (same_id (client t s.i)) e))
+      | else-search-test w ↦ ap not (w.clash-is ∙ s.invariant.1) ∙ sym (s.invariant.2 ∙ pairs_end t s.i (omega arith) same_id)
+      | then-search-test+then-loop-j-test+then-same w ↦
+          let j = w.loop-j.j in
+          let e : same_id (client t s.i) (client t j) ≡ true = cc in
+          ap not w.clash-is
+          ∙ sym (s.invariant.2 ∙ pairs_hit t s.i (omega arith) same_id (w.loop-j.invariant.0 ∙ clash_hit t j (omega arith) (same_id (client t s.i)) e))
     ]
