@@ -1,4 +1,4 @@
-use Rattle.std.proofs.Common.{ap, arith, drop, false, not, refl, rules, sym, ℕ, ⊎_elim, ◌∙◌}
+use Rattle.std.proofs.Common.{ap, arith, drop, false, not, refl, rules, sym, ℕ, ◌∙◌}
 use Rattle.ledger.proofs.Loops.{some_rec_hit, some_rec_miss, some_rec_end, apart_rec_hit, apart_rec_miss, apart_rec_end}
 use Rattle.soundness.proofs.ShortCuts.{row_start, idle_none}
 use Rattle.ledger.specs.Fields.{rec, records}
@@ -6,6 +6,7 @@ use Rattle.soundness.specs.Quick.{idle}
 use Rattle.ledger.specs.Sound.{meets}
 use Rattle.octets.specs.Lists.{some}
 use Rattle.soundness.proofs.pool.values_apart.Goals as goal
+use Rattle.soundness.proofs.pool.values_apart.Goals.{else-search-test, then-search-test+then-loop-j-test+then-is_meeting}
 
 pub search-init : goal.search-init
 search-init c = (c.slots-n.ensures, search rules, refl, refl)
@@ -21,4 +22,22 @@ pub search-preserved : goal.search-preserved
 search-preserved c = let l = c.args.l.now in let t = c.search in let p = c.loop-j in (search rules, search rules, search rules, t.invariant.3 ∙ apart_rec_miss meets l t.i (omega arith) (p.invariant.4 ∙ some_rec_end (meets (rec l t.i)) l p.j (omega arith)))
 
 pub returns : goal.returns
-returns c = let q = c.search in let l = c.args.l.now in ⊎_elim (λ w. ap not (w.1 ∙ q.invariant.2) ∙ sym (q.invariant.3 ∙ apart_rec_end meets l q.i (omega (arith, w.0.left)))) (λ w. ap not w.13 ∙ sym (q.invariant.3 ∙ apart_rec_hit meets l q.i (omega (arith, w.0.taken)) (w.8.inv.4 ∙ some_rec_hit (meets (rec l q.i)) l w.8.j (omega (arith, w.9.taken)) (rw (w.1.ensures.0, w.10.ensures.0) at (sym w.11.ensures ∙ w.12.taken))))) c.search-test.branch
+returns c =
+    let q = c.search in
+    let l = c.args.l.now in
+    elim c.search-test.branch [
+      | else-search-test w ↦
+          ap not (w.clash-is ∙ q.invariant.2) ∙ sym (q.invariant.3 ∙ apart_rec_end meets l q.i (omega (arith, w.search-test.false)))
+      | then-search-test+then-loop-j-test+then-is_meeting w ↦
+          let j = w.loop-j.j in
+          ap not w.clash-is
+          ∙ sym (
+          q.invariant.3
+          ∙ apart_rec_hit meets l q.i (omega (arith, w.search-test.true)) (
+          w.loop-j.invariant.4
+          ∙ some_rec_hit (meets (rec l q.i)) l j (omega (arith, w.loop-j-test.true)) (
+          rw (w.whole-r.ensures.0, w.whole.ensures.0) at (sym w.is_meeting.ensures ∙ w.if-is_meeting.true)
+          )
+          )
+          )
+    ]

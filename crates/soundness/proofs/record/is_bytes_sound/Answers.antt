@@ -14,7 +14,7 @@ returns-then-is_zero-2 c = simp (sym c.is_zero-2.ensures ∙ c.if-is_zero-2.true
 
 pub returns-in_default : goal.returns-in_default
 unfolding bytes_sound
-returns-in_default c = simp (challenge_ill _ (sym c.check.ensures ∙ c.enum_told-in_default-1.given.1), and-false)
+returns-in_default c = simp (challenge_ill _ (sym c.check.ensures ∙ c.in_default.is), and-false)
 
 pub returns : goal.returns
 unfolding bytes_sound
@@ -25,5 +25,5 @@ returns c =
     simp (
       sym e1.is_zero.ensures ∙ e1.if-is_zero.false,
       sym e2.is_zero-2.ensures ∙ e2.if-is_zero-2.false,
-      challenge_well _ (sym t.check.ensures ∙ t.enum_told-1.given.1),
+      challenge_well _ (sym t.check.ensures ∙ t.in-Well.is),
     ) c.is_redirect_sound.ensures

@@ -18,7 +18,7 @@ returns-in_default c =
     let n = b.long-n.result in
     simp (
       sym b.long-n.ensures.0,
-      redirect_part_ill r n (sym c.check.ensures ∙ c.enum_told-in_default-1.given.1),
+      redirect_part_ill r n (sym c.check.ensures ∙ c.in_default.is),
       and-false,
     )
 
@@ -33,5 +33,5 @@ returns c =
       sym b.long-n.ensures.0,
       le-leb _ _ e2.if-n-lt-LEAST.false,
       le-leb _ _ e2.if-n-gt-MOST.false,
-      redirect_part_well r n (sym t.check.ensures ∙ t.enum_told-1.given.1),
+      redirect_part_well r n (sym t.check.ensures ∙ t.in-Well.is),
     ) (c.is_zero.ensures ∙ behind_part r n)
