@@ -11,10 +11,10 @@ pub returns-in_default : goal.returns-in_default
 unfolding fails_when
 returns-in_default c =
     let c5 = c in
-    rw (c.if-not-yes.false, value_told _ _ _ (sym c.check.ensures ∙ c.enum_told-in_default-1.given.1))
+    rw (c.if-not-yes.false, value_told _ _ _ (sym c.check.ensures ∙ c.in_default.is))
 
 pub returns : goal.returns
 unfolding fails_when
 returns c =
     let c5 = c in
-    rw (c.if-not-yes.false, value_told _ _ _ (sym c.check.ensures ∙ c.enum_told-1.given.1))
+    rw (c.if-not-yes.false, value_told _ _ _ (sym c.check.ensures ∙ c.in-New.is))

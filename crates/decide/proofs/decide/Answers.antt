@@ -52,13 +52,13 @@ s1 c = c
 
 t1 : (c : tie.After-enum-told) → Come 1 (checks (s1 c))
 unfolding decide_checks
-t1 c = passes 0 (checks (s1 c)) refl (ap not (sound_told _ _ (sym c.check.ensures ∙ c.enum_told-1.given.1)))
+t1 c = passes 0 (checks (s1 c)) refl (ap not (sound_told _ _ (sym c.check.ensures ∙ c.in-Sound.is)))
 
 abbrev s2 : tie.After-enum-told3 → tie.Start
 s2 c = s1 c
 
 in_time : (c : tie.After-enum-told3) → untimely (l (s2 c)) (s2 c).args.time ≡ false
-in_time c = time_told _ _ _ (sym c.check-2.ensures ∙ c.enum_told-in-Timely-1.given.1)
+in_time c = time_told _ _ _ (sym c.check-2.ensures ∙ c.in-Timely.is)
 
 t2 : (c : tie.After-enum-told3) → Come 2 (checks (s2 c))
 unfolding decide_checks
@@ -69,22 +69,22 @@ s20 c = s2 c
 
 t20 : (c : tie.After-enum-told5) → Come 3 (checks (s20 c))
 unfolding decide_checks
-t20 c = passes 2 (checks (s20 c)) (t2 c) (told _ _ (sym c.room.ensures ∙ c.enum_told-in-Passed-1.given.1))
+t20 c = passes 2 (checks (s20 c)) (t2 c) (told _ _ (sym c.room.ensures ∙ c.in-Passed.is))
 
 abbrev s10 : tie.After-k → tie.Start
 s10 c = s20 c
 
 t10 : (c : tie.After-k) → Come 4 (checks (s10 c))
 unfolding decide_checks
-t10 c = passes 3 (checks (s10 c)) (t20 c) (ap not (found_told _ _ _ (sym c.reference.ensures ∙ c.k-1.given.1)))
+t10 c = passes 3 (checks (s10 c)) (t20 c) (ap not (found_told _ _ _ (sym c.reference.ensures ∙ c.in-At.is)))
 
-found_at : (c : tie.After-k) → place (s10 c) ≡ c.k-1.given.0.0
-found_at c = found_place _ _ _ (sym c.reference.ensures ∙ c.k-1.given.1)
+found_at : (c : tie.After-k) → place (s10 c) ≡ c.in-At.k
+found_at c = found_place _ _ _ (sym c.reference.ensures ∙ c.in-At.is)
 
-inside : (c : tie.After-k) → c.k-1.given.0.0 < slots (l (s10 c))
-inside c = found_inside (is_reference (s10 c).args.reference.now (s10 c).args.client.now) _ _ (sym c.reference.ensures ∙ c.k-1.given.1)
+inside : (c : tie.After-k) → c.in-At.k < slots (l (s10 c))
+inside c = found_inside (is_reference (s10 c).args.reference.now (s10 c).args.client.now) _ _ (sym c.reference.ensures ∙ c.in-At.is)
 
-record_is : (c : tie.After-k) {r : List ℕ} → r ≡ rec (l (s10 c)) c.k-1.given.0.0 → r ≡ rec (l (s10 c)) (place (s10 c))
+record_is : (c : tie.After-k) {r : List ℕ} → r ≡ rec (l (s10 c)) c.in-At.k → r ≡ rec (l (s10 c)) (place (s10 c))
 record_is c e = e ∙ ap (rec (l (s10 c))) (sym (found_at c))
 
 abbrev s11 : tie.After-enum-told8 → tie.Start
@@ -92,21 +92,21 @@ s11 c = s10 c
 
 t11 : (c : tie.After-enum-told8) → Come 5 (checks (s11 c))
 unfolding decide_checks
-t11 c = passes 4 (checks (s11 c)) (t10 c) (life_told _ _ _ (rw (record_is c c.at.ensures) at (sym c.check_life.ensures ∙ c.enum_told-in-Alive-1.given.1)))
+t11 c = passes 4 (checks (s11 c)) (t10 c) (life_told _ _ _ (rw (record_is c c.at.ensures) at (sym c.check_life.ensures ∙ c.in-Alive.is)))
 
 abbrev s12 : tie.After-enum-told10 → tie.Start
 s12 c = s11 c
 
 t12 : (c : tie.After-enum-told10) → Come 6 (checks (s12 c))
 unfolding decide_checks
-t12 c = passes 5 (checks (s12 c)) (t11 c) (told _ _ (sym c.given.ensures ∙ c.enum_told-in-Passed-given-1.given.1))
+t12 c = passes 5 (checks (s12 c)) (t11 c) (told _ _ (sym c.given.ensures ∙ c.in-Passed-given.is))
 
 abbrev s7 : tie.After-enum-told12 → tie.Start
 s7 c = s12 c
 
 t7 : (c : tie.After-enum-told12) → Come 7 (checks (s7 c))
 unfolding decide_checks
-t7 c = passes 6 (checks (s7 c)) (t12 c) (told _ _ (sym c.check_fresh.ensures ∙ c.enum_told-in-Passed-check_fresh-1.given.1))
+t7 c = passes 6 (checks (s7 c)) (t12 c) (told _ _ (sym c.check_fresh.ensures ∙ c.in-Passed-check_fresh.is))
 
 -- back to where the record has been found, and to where the time has passed
 abbrev k_place : tie.After-enum-told12 → tie.After-k
@@ -121,43 +121,43 @@ pub returns-in_default : goal.returns-in_default
 unfolding decide_checks
 returns-in_default c =
     let b = c in
-    refusal (b) 0 refl (ap not (sound_told _ _ (sym c.check.ensures ∙ c.enum_told-in_default-1.given.1))) c.refused.ensures
+    refusal (b) 0 refl (ap not (sound_told _ _ (sym c.check.ensures ∙ c.in_default.is))) c.refused.ensures
 
 pub returns-in_default-check : goal.returns-in_default-check
 unfolding decide_checks
 returns-in_default-check c =
     let b = c in
-    refusal (s1 b) 1 (t1 b) (time_told _ _ _ (sym c.check-2.ensures ∙ c.enum_told-in_default-check-1.given.1)) c.refused-in_default-check.ensures
+    refusal (s1 b) 1 (t1 b) (time_told _ _ _ (sym c.check-2.ensures ∙ c.in_default-check.is)) c.refused-in_default-check.ensures
 
 pub returns-in_default-room : goal.returns-in_default-room
 unfolding decide_checks
 returns-in_default-room c =
     let b = c in
-    refusal (s2 b) 2 (t2 b) (told _ _ (sym c.room.ensures ∙ c.enum_told-in_default-room-1.given.1)) c.refused-in_default-room.ensures
+    refusal (s2 b) 2 (t2 b) (told _ _ (sym c.room.ensures ∙ c.in_default-room.is)) c.refused-in_default-room.ensures
 
 pub returns-in_default-reference : goal.returns-in_default-reference
 unfolding decide_checks
 returns-in_default-reference c =
     let b = c in
-    refusal (s20 b) 3 (t20 b) (ap not (found_told _ _ _ (sym c.reference.ensures ∙ c.enum_told-in_default-reference-1.given.1))) c.refused-in_default-reference.ensures
+    refusal (s20 b) 3 (t20 b) (ap not (found_told _ _ _ (sym c.reference.ensures ∙ c.in_default-reference.is))) c.refused-in_default-reference.ensures
 
 pub returns-in_default-check_life : goal.returns-in_default-check_life
 unfolding decide_checks
 returns-in_default-check_life c =
     let b = c in
-    refusal (s10 b) 4 (t10 b) (life_told _ _ _ (rw (record_is b c.at.ensures) at (sym c.check_life.ensures ∙ c.enum_told-in_default-check_life-1.given.1))) c.refused-in_default-check_life.ensures
+    refusal (s10 b) 4 (t10 b) (life_told _ _ _ (rw (record_is b c.at.ensures) at (sym c.check_life.ensures ∙ c.in_default-check_life.is))) c.refused-in_default-check_life.ensures
 
 pub returns-in_default-given : goal.returns-in_default-given
 unfolding decide_checks
 returns-in_default-given c =
     let b = c in
-    refusal (s11 b) 5 (t11 b) (told _ _ (sym c.given.ensures ∙ c.enum_told-in_default-given-1.given.1)) c.refused-in_default-given.ensures
+    refusal (s11 b) 5 (t11 b) (told _ _ (sym c.given.ensures ∙ c.in_default-given.is)) c.refused-in_default-given.ensures
 
 pub returns-in_default-check_fresh : goal.returns-in_default-check_fresh
 unfolding decide_checks
 returns-in_default-check_fresh c =
     let b = c in
-    refusal (s12 b) 6 (t12 b) (told _ _ (sym c.check_fresh.ensures ∙ c.enum_told-in_default-check_fresh-1.given.1)) c.refused-in_default-check_fresh.ensures
+    refusal (s12 b) 6 (t12 b) (told _ _ (sym c.check_fresh.ensures ∙ c.in_default-check_fresh.is)) c.refused-in_default-check_fresh.ensures
 
 pub consent_at-requires : goal.consent_at-requires
 consent_at-requires c =

@@ -47,14 +47,14 @@ s1 c = c
 
 t1 : (c : tie.After-enum-told) → Come 1 (checks (s1 c))
 unfolding introspect_checks
-t1 c = passes 0 (checks (s1 c)) refl (ap not (sound_told _ _ (sym c.check.ensures ∙ c.enum_told-1.given.1)))
+t1 c = passes 0 (checks (s1 c)) refl (ap not (sound_told _ _ (sym c.check.ensures ∙ c.in-Sound.is)))
 
 abbrev s2 : tie.After-enum-told3 → tie.Start
 s2 c = s1 c
 
 t2 : (c : tie.After-enum-told3) → Come 2 (checks (s2 c))
 unfolding introspect_checks
-t2 c = passes 1 (checks (s2 c)) (t1 c) (time_told _ _ _ (sym c.check-2.ensures ∙ c.enum_told-in-Timely-1.given.1))
+t2 c = passes 1 (checks (s2 c)) (t1 c) (time_told _ _ _ (sym c.check-2.ensures ∙ c.in-Timely.is))
 
 -- ---- what the text's writer answers and leaves
 
@@ -78,21 +78,21 @@ pub returns-in_default : goal.returns-in_default
 unfolding introspect_checks
 returns-in_default c =
     let b = c in
-    refusal b 0 refl (ap not (sound_told _ _ (sym c.check.ensures ∙ c.enum_told-in_default-1.given.1))) c.refused.ensures
+    refusal b 0 refl (ap not (sound_told _ _ (sym c.check.ensures ∙ c.in_default.is))) c.refused.ensures
 
 pub returns-in_default-check : goal.returns-in_default-check
 unfolding introspect_checks
 returns-in_default-check c =
     let b = c in
-    refusal (s1 b) 1 (t1 b) (time_told _ _ _ (sym c.check-2.ensures ∙ c.enum_told-in_default-check-1.given.1)) c.refused-in_default-check.ensures
+    refusal (s1 b) 1 (t1 b) (time_told _ _ _ (sym c.check-2.ensures ∙ c.in_default-check.is)) c.refused-in_default-check.ensures
 
 pub returns-in_default-describe : goal.returns-in_default-describe
 unfolding introspect_checks
 returns-in_default-describe c =
     let b = c in
-    too_short (s2 b) _ _ c.describe.ensures (t2 b) c.enum_told-in_default-describe-1.given.1 c.refused-in_default-describe.ensures
+    too_short (s2 b) _ _ c.describe.ensures (t2 b) c.in_default-describe.is c.refused-in_default-describe.ensures
 
 pub returns : goal.returns
 returns c =
     let b = c in
-    long-enough (s2 b) _ _ c.describe.ensures (t2 b) _ c.n-1.given.1 c.with.ensures
+    long-enough (s2 b) _ _ c.describe.ensures (t2 b) _ c.in-Length.is c.with.ensures

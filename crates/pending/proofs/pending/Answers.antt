@@ -51,41 +51,41 @@ s1 c = c
 
 t1 : (c : tie.After-enum-told) → Come 1 (checks (s1 c))
 unfolding pending_checks
-t1 c = passes 0 (checks (s1 c)) refl (ap not (sound_told _ _ (sym c.check.ensures ∙ c.enum_told-1.given.1)))
+t1 c = passes 0 (checks (s1 c)) refl (ap not (sound_told _ _ (sym c.check.ensures ∙ c.in-Sound.is)))
 
 abbrev s2 : tie.After-enum-told3 → tie.Start
 s2 c = s1 c
 
 t2 : (c : tie.After-enum-told3) → Come 2 (checks (s2 c))
 unfolding pending_checks
-t2 c = passes 1 (checks (s2 c)) (t1 c) (time_told _ _ _ (sym c.check-2.ensures ∙ c.enum_told-in-Timely-1.given.1))
+t2 c = passes 1 (checks (s2 c)) (t1 c) (time_told _ _ _ (sym c.check-2.ensures ∙ c.in-Timely.is))
 
 abbrev s20 : tie.After-enum-told5 → tie.Start
 s20 c = s2 c
 
 t20 : (c : tie.After-enum-told5) → Come 3 (checks (s20 c))
 unfolding pending_checks
-t20 c = passes 2 (checks (s20 c)) (t2 c) (told _ _ (sym c.room.ensures ∙ c.enum_told-in-Passed-1.given.1))
+t20 c = passes 2 (checks (s20 c)) (t2 c) (told _ _ (sym c.room.ensures ∙ c.in-Passed.is))
 
 abbrev s10 : tie.After-k → tie.Start
 s10 c = s20 c
 
 t10 : (c : tie.After-k) → Come 4 (checks (s10 c))
 unfolding pending_checks
-t10 c = passes 3 (checks (s10 c)) (t20 c) (ap not (found_told _ _ _ (sym c.reference.ensures ∙ c.k-1.given.1)))
+t10 c = passes 3 (checks (s10 c)) (t20 c) (ap not (found_told _ _ _ (sym c.reference.ensures ∙ c.in-At.is)))
 
 abbrev sr : tie.After-at → tie.Start
 sr c = s10 c
 
 record_is : (c : tie.After-at) → c.at-r.result.now ≡ rec (l (sr c)) (place (sr c))
-record_is c = c.at-r.ensures ∙ ap (rec (l (sr c))) (sym (found_place _ _ _ (sym c.reference.ensures ∙ c.k-1.given.1)))
+record_is c = c.at-r.ensures ∙ ap (rec (l (sr c))) (sym (found_place _ _ _ (sym c.reference.ensures ∙ c.in-At.is)))
 
 abbrev r11 : tie.After-enum-told8 → tie.After-at
 r11 c = c
 
 t11 : (c : tie.After-enum-told8) → Come 5 (checks (sr (r11 c)))
 unfolding pending_checks
-t11 c = passes 4 (checks (sr (r11 c))) (t10 (r11 c)) (life_told _ _ _ (rw (record_is (r11 c)) at (sym c.check_life.ensures ∙ c.enum_told-in-Alive-1.given.1)))
+t11 c = passes 4 (checks (sr (r11 c))) (t10 (r11 c)) (life_told _ _ _ (rw (record_is (r11 c)) at (sym c.check_life.ensures ∙ c.in-Alive.is)))
 
 -- ---- the returns
 
@@ -93,31 +93,31 @@ pub returns-in_default : goal.returns-in_default
 unfolding pending_checks
 returns-in_default c =
     let b = c in
-    refusal (b) 0 refl (ap not (sound_told _ _ (sym c.check.ensures ∙ c.enum_told-in_default-1.given.1))) c.refused.ensures
+    refusal (b) 0 refl (ap not (sound_told _ _ (sym c.check.ensures ∙ c.in_default.is))) c.refused.ensures
 
 pub returns-in_default-check : goal.returns-in_default-check
 unfolding pending_checks
 returns-in_default-check c =
     let b = c in
-    refusal (s1 b) 1 (t1 b) (time_told _ _ _ (sym c.check-2.ensures ∙ c.enum_told-in_default-check-1.given.1)) c.refused-in_default-check.ensures
+    refusal (s1 b) 1 (t1 b) (time_told _ _ _ (sym c.check-2.ensures ∙ c.in_default-check.is)) c.refused-in_default-check.ensures
 
 pub returns-in_default-room : goal.returns-in_default-room
 unfolding pending_checks
 returns-in_default-room c =
     let b = c in
-    refusal (s2 b) 2 (t2 b) (told _ _ (sym c.room.ensures ∙ c.enum_told-in_default-room-1.given.1)) c.refused-in_default-room.ensures
+    refusal (s2 b) 2 (t2 b) (told _ _ (sym c.room.ensures ∙ c.in_default-room.is)) c.refused-in_default-room.ensures
 
 pub returns-in_default-reference : goal.returns-in_default-reference
 unfolding pending_checks
 returns-in_default-reference c =
     let b = c in
-    refusal (s20 b) 3 (t20 b) (ap not (found_told _ _ _ (sym c.reference.ensures ∙ c.enum_told-in_default-reference-1.given.1))) c.refused-in_default-reference.ensures
+    refusal (s20 b) 3 (t20 b) (ap not (found_told _ _ _ (sym c.reference.ensures ∙ c.in_default-reference.is))) c.refused-in_default-reference.ensures
 
 pub returns-in_default-check_life : goal.returns-in_default-check_life
 unfolding pending_checks
 returns-in_default-check_life c =
     let b = c in
-    refusal (sr b) 4 (t10 b) (life_told _ _ _ (rw (record_is b) at (sym c.check_life.ensures ∙ c.enum_told-in_default-check_life-1.given.1))) c.refused-in_default-check_life.ensures
+    refusal (sr b) 4 (t10 b) (life_told _ _ _ (rw (record_is b) at (sym c.check_life.ensures ∙ c.in_default-check_life.is))) c.refused-in_default-check_life.ensures
 
 pub returns : goal.returns
 returns c =

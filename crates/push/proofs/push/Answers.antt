@@ -56,13 +56,13 @@ s1 c = c
 
 t1 : (c : tie.After-enum-told) → Come 1 (checks (s1 c))
 unfolding push_checks
-t1 c = passes 0 (checks (s1 c)) refl (ap not (sound_told _ _ (sym c.check.ensures ∙ c.enum_told-1.given.1)))
+t1 c = passes 0 (checks (s1 c)) refl (ap not (sound_told _ _ (sym c.check.ensures ∙ c.in-Sound.is)))
 
 abbrev s2 : tie.After-enum-told3 → tie.Start
 s2 c = s1 c
 
 in_time : (c : tie.After-enum-told3) → untimely (l (s2 c)) (s2 c).args.time ≡ false
-in_time c = time_told _ _ _ (sym c.check-2.ensures ∙ c.enum_told-in-Timely-1.given.1)
+in_time c = time_told _ _ _ (sym c.check-2.ensures ∙ c.in-Timely.is)
 
 t2 : (c : tie.After-enum-told3) → Come 2 (checks (s2 c))
 unfolding push_checks
@@ -73,24 +73,24 @@ s3 c = s2 c
 
 t3 : (c : tie.After-enum-told5) → Come 3 (checks (s3 c))
 unfolding push_checks
-t3 c = passes 2 (checks (s3 c)) (t2 c) (ap not (table_told _ _ (sym c.check-3.ensures ∙ c.enum_told-in-Sound-check-1.given.1)))
+t3 c = passes 2 (checks (s3 c)) (t2 c) (ap not (table_told _ _ (sym c.check-3.ensures ∙ c.in-Sound-check.is)))
 
 abbrev s4 : tie.After-who → tie.Start
 s4 c = s3 c
 
 t4 : (c : tie.After-who) → Come 4 (checks (s4 c))
 unfolding push_checks
-t4 c = passes 3 (checks (s4 c)) (t3 c) (ap not (known_told _ _ _ _ (sym c.find.ensures ∙ c.who-1.given.1)))
+t4 c = passes 3 (checks (s4 c)) (t3 c) (ap not (known_told _ _ _ _ (sym c.find.ensures ∙ c.in-At.is)))
 
-who_at : (c : tie.After-who) → place_of (table (s4 c)) (s4 c).args.client.now ≡ c.who-1.given.0.0
-who_at c = known_place _ _ _ _ (sym c.find.ensures ∙ c.who-1.given.1)
+who_at : (c : tie.After-who) → place_of (table (s4 c)) (s4 c).args.client.now ≡ c.in-At.who
+who_at c = known_place _ _ _ _ (sym c.find.ensures ∙ c.in-At.is)
 
 abbrev s5 : tie.After-enum-told8 → tie.Start
 s5 c = s4 c
 
 t5 : (c : tie.After-enum-told8) → Come 5 (checks (s5 c))
 unfolding push_checks
-t5 c = passes 4 (checks (s5 c)) (t4 c) (ap not (texts_told _ _ _ (sym c.texts.ensures ∙ c.enum_told-in-Passed-1.given.1)))
+t5 c = passes 4 (checks (s5 c)) (t4 c) (ap not (texts_told _ _ _ (sym c.texts.ensures ∙ c.in-Passed.is)))
 
 abbrev sp : tie.After-permitted → tie.Start
 sp c = s5 c
@@ -108,36 +108,36 @@ s6 c = s5 c
 
 t6 : (c : tie.After-bits) → Come 6 (checks (s6 c))
 unfolding push_checks
-t6 c = passes 5 (checks (s6 c)) (t5 c) (ap not (scope_told _ _ _ (decided c c.granted.ensures c.bits-1.given.1)))
+t6 c = passes 5 (checks (s6 c)) (t5 c) (ap not (scope_told _ _ _ (decided c c.granted.ensures c.in-Granted.is)))
 
-bits_are : (c : tie.After-bits) → granted_bits (s6 c).args.scope (permitted (client_record (table (s6 c)) (request (s6 c)))) ≡ c.bits-1.given.0.0
-bits_are c = scope_bits _ _ _ (decided c c.granted.ensures c.bits-1.given.1)
+bits_are : (c : tie.After-bits) → granted_bits (s6 c).args.scope (permitted (client_record (table (s6 c)) (request (s6 c)))) ≡ c.in-Granted.bits
+bits_are c = scope_bits _ _ _ (decided c c.granted.ensures c.in-Granted.is)
 
 abbrev s7 : tie.After-enum-told11 → tie.Start
 s7 c = s6 c
 
 t7 : (c : tie.After-enum-told11) → Come 7 (checks (s7 c))
 unfolding push_checks
-t7 c = passes 6 (checks (s7 c)) (t6 c) (value_told _ _ _ (sym c.check-4.ensures ∙ c.enum_told-in-New-1.given.1))
+t7 c = passes 6 (checks (s7 c)) (t6 c) (value_told _ _ _ (sym c.check-4.ensures ∙ c.in-New.is))
 
 abbrev s8 : tie.After-k → tie.Start
 s8 c = s7 c
 
 t8 : (c : tie.After-k) → Come 8 (checks (s8 c))
 unfolding push_checks
-t8 c = passes 7 (checks (s8 c)) (t7 c) (ap not (found_told _ _ _ (sym c.free.ensures ∙ c.k-1.given.1)))
+t8 c = passes 7 (checks (s8 c)) (t7 c) (ap not (found_told _ _ _ (sym c.free.ensures ∙ c.in-At-free.is)))
 
-free_at : (c : tie.After-k) → free_place (l (s8 c)) ≡ c.k-1.given.0.0
-free_at c = found_place _ _ _ (sym c.free.ensures ∙ c.k-1.given.1)
+free_at : (c : tie.After-k) → free_place (l (s8 c)) ≡ c.in-At-free.k
+free_at c = found_place _ _ _ (sym c.free.ensures ∙ c.in-At-free.is)
 
-inside : (c : tie.After-k) → c.k-1.given.0.0 < slots (l (s8 c))
-inside c = found_inside is_free _ _ (sym c.free.ensures ∙ c.k-1.given.1)
+inside : (c : tie.After-k) → c.in-At-free.k < slots (l (s8 c))
+inside c = found_inside is_free _ _ (sym c.free.ensures ∙ c.in-At-free.is)
 
 abbrev s9 : tie.After-enum-told14 → tie.Start
 s9 c = s8 c
 
 number_left : (c : tie.After-enum-told14) → eqb (next_number (l (s9 c))) last_number ≡ false
-number_left c = told _ _ (ap (λ (n : ℕ). fails_when (eqb n last_number)) (sym c.next_number-number.ensures) ∙ sym c.number.ensures ∙ c.enum_told-in-Passed-number-1.given.1)
+number_left c = told _ _ (ap (λ (n : ℕ). fails_when (eqb n last_number)) (sym c.next_number-number.ensures) ∙ sym c.number.ensures ∙ c.in-Passed-number.is)
 
 t9 : (c : tie.After-enum-told14) → Come 9 (checks (s9 c))
 unfolding push_checks
@@ -151,12 +151,12 @@ time_place c = c
 abbrev who_place : tie.After-enum-told14 → tie.After-who
 who_place c = c
 
-lives : (c : tie.After-who) → lifetime_of (client (table (s4 c)) c.who-1.given.0.0) ≤ lifetime_most
+lives : (c : tie.After-who) → lifetime_of (client (table (s4 c)) c.in-At.who) ≤ lifetime_most
 lives c =
-    known_most _ _ _ _ (table_told _ _ (sym c.check-3.ensures ∙ c.enum_told-in-Sound-check-1.given.1))
-    (sym c.find.ensures ∙ c.who-1.given.1)
+    known_most _ _ _ _ (table_told _ _ (sym c.check-3.ensures ∙ c.in-Sound-check.is))
+    (sym c.find.ensures ∙ c.in-At.is)
 
-lasts : (c : tie.After-who) {n : ℕ} {r : List ℕ} → n ≡ lifetime_of r → r ≡ client (table (s4 c)) c.who-1.given.0.0 → n ≡ lifetime (table (s4 c)) (request (s4 c))
+lasts : (c : tie.After-who) {n : ℕ} {r : List ℕ} → n ≡ lifetime_of r → r ≡ client (table (s4 c)) c.in-At.who → n ≡ lifetime (table (s4 c)) (request (s4 c))
 lasts c e f = e ∙ ap lifetime_of (f ∙ ap (client (table (s4 c))) (sym (who_at c)))
 
 -- ---- the returns
@@ -165,55 +165,55 @@ pub returns-in_default : goal.returns-in_default
 unfolding push_checks
 returns-in_default c =
     let b = c in
-    refusal (b) 0 refl (ap not (sound_told _ _ (sym c.check.ensures ∙ c.enum_told-in_default-1.given.1))) c.refused.ensures
+    refusal (b) 0 refl (ap not (sound_told _ _ (sym c.check.ensures ∙ c.in_default.is))) c.refused.ensures
 
 pub returns-in_default-check : goal.returns-in_default-check
 unfolding push_checks
 returns-in_default-check c =
     let b = c in
-    refusal (s1 b) 1 (t1 b) (time_told _ _ _ (sym c.check-2.ensures ∙ c.enum_told-in_default-check-1.given.1)) c.refused-in_default-check.ensures
+    refusal (s1 b) 1 (t1 b) (time_told _ _ _ (sym c.check-2.ensures ∙ c.in_default-check.is)) c.refused-in_default-check.ensures
 
 pub returns-in_default-check-2 : goal.returns-in_default-check-2
 unfolding push_checks
 returns-in_default-check-2 c =
     let b = c in
-    refusal (s2 b) 2 (t2 b) (ap not (table_told _ _ (sym c.check-3.ensures ∙ c.enum_told-in_default-check-2-1.given.1))) c.refused-in_default-check-2.ensures
+    refusal (s2 b) 2 (t2 b) (ap not (table_told _ _ (sym c.check-3.ensures ∙ c.in_default-check-2.is))) c.refused-in_default-check-2.ensures
 
 pub returns-in_default-find : goal.returns-in_default-find
 unfolding push_checks
 returns-in_default-find c =
     let b = c in
-    refusal (s3 b) 3 (t3 b) (ap not (known_told _ _ _ _ (sym c.find.ensures ∙ c.enum_told-in_default-find-1.given.1))) c.refused-in_default-find.ensures
+    refusal (s3 b) 3 (t3 b) (ap not (known_told _ _ _ _ (sym c.find.ensures ∙ c.in_default-find.is))) c.refused-in_default-find.ensures
 
 pub returns-in_default-texts : goal.returns-in_default-texts
 unfolding push_checks
 returns-in_default-texts c =
     let b = c in
-    refusal (s4 b) 4 (t4 b) (ap not (texts_told _ _ _ (sym c.texts.ensures ∙ c.enum_told-in_default-texts-1.given.1))) c.refused-in_default-texts.ensures
+    refusal (s4 b) 4 (t4 b) (ap not (texts_told _ _ _ (sym c.texts.ensures ∙ c.in_default-texts.is))) c.refused-in_default-texts.ensures
 
 pub returns-in_default-granted : goal.returns-in_default-granted
 unfolding push_checks
 returns-in_default-granted c =
     let b = c in
-    refusal (s5 b) 5 (t5 b) (ap not (scope_told _ _ _ (decided c c.granted.ensures c.enum_told-in_default-granted-1.given.1))) c.refused-in_default-granted.ensures
+    refusal (s5 b) 5 (t5 b) (ap not (scope_told _ _ _ (decided c c.granted.ensures c.in_default-granted.is))) c.refused-in_default-granted.ensures
 
 pub returns-in_default-check-3 : goal.returns-in_default-check-3
 unfolding push_checks
 returns-in_default-check-3 c =
     let b = c in
-    refusal (s6 b) 6 (t6 b) (value_told _ _ _ (sym c.check-4.ensures ∙ c.enum_told-in_default-check-3-1.given.1)) c.refused-in_default-check-3.ensures
+    refusal (s6 b) 6 (t6 b) (value_told _ _ _ (sym c.check-4.ensures ∙ c.in_default-check-3.is)) c.refused-in_default-check-3.ensures
 
 pub returns-in_default-free : goal.returns-in_default-free
 unfolding push_checks
 returns-in_default-free c =
     let b = c in
-    refusal (s7 b) 7 (t7 b) (ap not (found_told _ _ _ (sym c.free.ensures ∙ c.enum_told-in_default-free-1.given.1))) c.refused-in_default-free.ensures
+    refusal (s7 b) 7 (t7 b) (ap not (found_told _ _ _ (sym c.free.ensures ∙ c.in_default-free.is))) c.refused-in_default-free.ensures
 
 pub returns-in_default-number : goal.returns-in_default-number
 unfolding push_checks
 returns-in_default-number c =
     let b = c in
-    refusal (s8 b) 8 (t8 b) (told _ _ (ap (λ (n : ℕ). fails_when (eqb n last_number)) (sym c.next_number-number.ensures) ∙ sym c.number.ensures ∙ c.enum_told-in_default-number-1.given.1)) c.refused-in_default-number.ensures
+    refusal (s8 b) 8 (t8 b) (told _ _ (ap (λ (n : ℕ). fails_when (eqb n last_number)) (sym c.next_number-number.ensures) ∙ sym c.number.ensures ∙ c.in_default-number.is)) c.refused-in_default-number.ensures
 
 pub overflow_add-time : goal.overflow_add-time
 overflow_add-time c =

@@ -49,13 +49,13 @@ s1 c = c
 
 t1 : (c : tie.After-enum-told) → Come 1 (checks (s1 c))
 unfolding resource_checks
-t1 c = passes 0 (checks (s1 c)) refl (ap not (sound_told _ _ (sym c.check.ensures ∙ c.enum_told-1.given.1)))
+t1 c = passes 0 (checks (s1 c)) refl (ap not (sound_told _ _ (sym c.check.ensures ∙ c.in-Sound.is)))
 
 abbrev s2 : tie.After-enum-told3 → tie.Start
 s2 c = s1 c
 
 in_time : (c : tie.After-enum-told3) → untimely (l (s2 c)) (s2 c).args.time ≡ false
-in_time c = time_told _ _ _ (sym c.check-2.ensures ∙ c.enum_told-in-Timely-1.given.1)
+in_time c = time_told _ _ _ (sym c.check-2.ensures ∙ c.in-Timely.is)
 
 t2 : (c : tie.After-enum-told3) → Come 2 (checks (s2 c))
 unfolding resource_checks
@@ -66,13 +66,13 @@ s17 c = s2 c
 
 t17 : (c : tie.After-k) → Come 3 (checks (s17 c))
 unfolding resource_checks
-t17 c = passes 2 (checks (s17 c)) (t2 c) (ap not (found_told _ _ _ (sym c.token.ensures ∙ c.k-1.given.1)))
+t17 c = passes 2 (checks (s17 c)) (t2 c) (ap not (found_told _ _ _ (sym c.token.ensures ∙ c.in-At.is)))
 
 abbrev sr : tie.After-at → tie.Start
 sr c = s17 c
 
 record_is : (c : tie.After-at) → c.at-r.result.now ≡ found_record (sr c)
-record_is c = c.at-r.ensures ∙ ap (rec (l (sr c))) (sym (found_place _ _ _ (sym c.token.ensures ∙ c.k-1.given.1)))
+record_is c = c.at-r.ensures ∙ ap (rec (l (sr c))) (sym (found_place _ _ _ (sym c.token.ensures ∙ c.in-At.is)))
 
 -- ---- from the record on, each place knows the one where the record was taken
 
@@ -81,14 +81,14 @@ r11 c = c
 
 t11 : (c : tie.After-enum-told6) → Come 4 (checks (sr (r11 c)))
 unfolding resource_checks
-t11 c = passes 3 (checks (sr (r11 c))) (t17 c) (life_told _ _ _ (rw (record_is (r11 c)) at (sym c.check_life.ensures ∙ c.enum_told-in-Alive-1.given.1)))
+t11 c = passes 3 (checks (sr (r11 c))) (t17 c) (life_told _ _ _ (rw (record_is (r11 c)) at (sym c.check_life.ensures ∙ c.in-Alive.is)))
 
 abbrev r18 : tie.After-enum-told8 → tie.After-at
 r18 c = r11 c
 
 t18 : (c : tie.After-enum-told8) → Come 5 (checks (sr (r18 c)))
 unfolding resource_checks
-t18 c = passes 4 (checks (sr (r18 c))) (t11 c) (told (nth 4 (checks (sr (r18 c)))).holds _ (rw (record_is (r18 c)) at (sym c.bound.ensures ∙ c.enum_told-in-Passed-1.given.1)))
+t18 c = passes 4 (checks (sr (r18 c))) (t11 c) (told (nth 4 (checks (sr (r18 c)))).holds _ (rw (record_is (r18 c)) at (sym c.bound.ensures ∙ c.in-Passed.is)))
 
 -- the granted bits are the record's
 bits : (c : tie.After-at) {n : ℕ} {a b : Test} → n ≡ scope c.at-r.result.now → a ≡ fails_when (not (scope_fits (sr c).args.scope n)) → a ≡ b
@@ -100,14 +100,14 @@ r6 c = r18 c
 
 t6 : (c : tie.After-enum-told10) → Come 6 (checks (sr (r6 c)))
 unfolding resource_checks
-t6 c = passes 5 (checks (sr (r6 c))) (t18 c) (told (nth 5 (checks (sr (r6 c)))).holds _ (bits (r6 c) c.scope.ensures c.within.ensures c.enum_told-in-Passed-within-1.given.1))
+t6 c = passes 5 (checks (sr (r6 c))) (t18 c) (told (nth 5 (checks (sr (r6 c)))).holds _ (bits (r6 c) c.scope.ensures c.within.ensures c.in-Passed-within.is))
 
 abbrev r19 : tie.After-enum-told12 → tie.After-at
 r19 c = r6 c
 
 t19 : (c : tie.After-enum-told12) → Come 7 (checks (sr (r19 c)))
 unfolding resource_checks
-t19 c = passes 6 (checks (sr (r19 c))) (t6 c) (told (nth 6 (checks (sr (r19 c)))).holds _ (rw (record_is (r19 c)) at (sym c.held.ensures ∙ c.enum_told-in-Passed-held-1.given.1)))
+t19 c = passes 6 (checks (sr (r19 c))) (t6 c) (told (nth 6 (checks (sr (r19 c)))).holds _ (rw (record_is (r19 c)) at (sym c.held.ensures ∙ c.in-Passed-held.is)))
 
 -- ---- the returns
 
@@ -115,43 +115,43 @@ pub returns-in_default : goal.returns-in_default
 unfolding resource_checks
 returns-in_default c =
     let b = c in
-    refusal (b) 0 refl (ap not (sound_told _ _ (sym c.check.ensures ∙ c.enum_told-in_default-1.given.1)))
+    refusal (b) 0 refl (ap not (sound_told _ _ (sym c.check.ensures ∙ c.in_default.is)))
 
 pub returns-in_default-check : goal.returns-in_default-check
 unfolding resource_checks
 returns-in_default-check c =
     let b = c in
-    refusal (s1 b) 1 (t1 b) (time_told _ _ _ (sym c.check-2.ensures ∙ c.enum_told-in_default-check-1.given.1))
+    refusal (s1 b) 1 (t1 b) (time_told _ _ _ (sym c.check-2.ensures ∙ c.in_default-check.is))
 
 pub returns-in_default-token : goal.returns-in_default-token
 unfolding resource_checks
 returns-in_default-token c =
     let b = c in
-    refusal (s2 b) 2 (t2 b) (ap not (found_told _ _ _ (sym c.token.ensures ∙ c.enum_told-in_default-token-1.given.1)))
+    refusal (s2 b) 2 (t2 b) (ap not (found_told _ _ _ (sym c.token.ensures ∙ c.in_default-token.is)))
 
 pub returns-in_default-check_life : goal.returns-in_default-check_life
 unfolding resource_checks
 returns-in_default-check_life c =
     let b = c in
-    refusal (sr b) 3 (t17 b) (life_told _ _ _ (rw (record_is b) at (sym c.check_life.ensures ∙ c.enum_told-in_default-check_life-1.given.1)))
+    refusal (sr b) 3 (t17 b) (life_told _ _ _ (rw (record_is b) at (sym c.check_life.ensures ∙ c.in_default-check_life.is)))
 
 pub returns-in_default-bound : goal.returns-in_default-bound
 unfolding resource_checks
 returns-in_default-bound c =
     let b = c in
-    refusal (sr (r11 b)) 4 (t11 b) (told (nth 4 (checks (sr (r11 b)))).holds _ (rw (record_is (r11 b)) at (sym c.bound.ensures ∙ c.enum_told-in_default-bound-1.given.1)))
+    refusal (sr (r11 b)) 4 (t11 b) (told (nth 4 (checks (sr (r11 b)))).holds _ (rw (record_is (r11 b)) at (sym c.bound.ensures ∙ c.in_default-bound.is)))
 
 pub returns-in_default-within : goal.returns-in_default-within
 unfolding resource_checks
 returns-in_default-within c =
     let b = c in
-    refusal (sr (r18 b)) 5 (t18 b) (told (nth 5 (checks (sr (r18 b)))).holds _ (bits (r18 b) c.scope.ensures c.within.ensures c.enum_told-in_default-within-1.given.1))
+    refusal (sr (r18 b)) 5 (t18 b) (told (nth 5 (checks (sr (r18 b)))).holds _ (bits (r18 b) c.scope.ensures c.within.ensures c.in_default-within.is))
 
 pub returns-in_default-held : goal.returns-in_default-held
 unfolding resource_checks
 returns-in_default-held c =
     let b = c in
-    refusal (sr (r6 b)) 6 (t6 b) (told (nth 6 (checks (sr (r6 b)))).holds _ (rw (record_is (r6 b)) at (sym c.held.ensures ∙ c.enum_told-in_default-held-1.given.1)))
+    refusal (sr (r6 b)) 6 (t6 b) (told (nth 6 (checks (sr (r6 b)))).holds _ (rw (record_is (r6 b)) at (sym c.held.ensures ∙ c.in_default-held.is)))
 
 pub returns : goal.returns
 returns c =

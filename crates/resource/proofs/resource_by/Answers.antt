@@ -16,7 +16,7 @@ stopped : (l : List ℕ) (t : ℕ) (r : Reading) (why : Refusal) (a : Answer) �
 stopped l t r why a e h = rw (e, h)
 
 pub returns-in-Granted : goal.returns-in-Granted
-returns-in-Granted c = granted _ _ _ _ _ c.reading-1.given.1 (search rules)
+returns-in-Granted c = granted _ _ _ _ _ c.in-Granted.is (search rules)
 
 pub returns-in-Refused : goal.returns-in-Refused
-returns-in-Refused c = stopped _ _ _ _ _ c.reading-in-Refused-1.given.1 (search rules)
+returns-in-Refused c = stopped _ _ _ _ _ c.in-Refused.is (search rules)

@@ -4,11 +4,11 @@ use Rattle.ledger.proofs.Tests.{size_told}
 use Rattle.start.proofs.start.Goals as goal
 
 pub returns-in_default : goal.returns-in_default
-returns-in_default c = start_1 _ _ (size_told _ _ (sym c.check_size.ensures ∙ c.enum_told-in_default-1.given.1)) c.number.ensures
+returns-in_default c = start_1 _ _ (size_told _ _ (sym c.check_size.ensures ∙ c.in_default.is)) c.number.ensures
 
 pub returns : goal.returns
 returns c =
     let c6 = c in
     let c8 = c6 in
     let c10 = c8 in
-    start_done _ _ _ (size_told _ _ (sym c10.check_size.ensures ∙ c8.enum_told-1.given.1)) c6.clear.ensures c.set_next.ensures
+    start_done _ _ _ (size_told _ _ (sym c10.check_size.ensures ∙ c8.in-Right.is)) c6.clear.ensures c.set_next.ensures

@@ -41,13 +41,13 @@ s1 c = c
 
 t1 : (c : tie.After-enum-told) → Come 1 (checks (s1 c))
 unfolding sweep_checks
-t1 c = passes 0 (checks (s1 c)) refl (ap not (sound_told _ _ (sym c.check.ensures ∙ c.enum_told-1.given.1)))
+t1 c = passes 0 (checks (s1 c)) refl (ap not (sound_told _ _ (sym c.check.ensures ∙ c.in-Sound.is)))
 
 abbrev s2 : tie.After-enum-told3 → tie.Start
 s2 c = s1 c
 
 in_time : (c : tie.After-enum-told3) → untimely (l (s2 c)) (s2 c).args.time ≡ false
-in_time c = time_told _ _ _ (sym c.check-2.ensures ∙ c.enum_told-in-Timely-1.given.1)
+in_time c = time_told _ _ _ (sym c.check-2.ensures ∙ c.in-Timely.is)
 
 t2 : (c : tie.After-enum-told3) → Come 2 (checks (s2 c))
 unfolding sweep_checks
@@ -59,13 +59,13 @@ pub returns-in_default : goal.returns-in_default
 unfolding sweep_checks
 returns-in_default c =
     let b = c in
-    refusal (b) 0 refl (ap not (sound_told _ _ (sym c.check.ensures ∙ c.enum_told-in_default-1.given.1))) c.refused.ensures
+    refusal (b) 0 refl (ap not (sound_told _ _ (sym c.check.ensures ∙ c.in_default.is))) c.refused.ensures
 
 pub returns-in_default-check : goal.returns-in_default-check
 unfolding sweep_checks
 returns-in_default-check c =
     let b = c in
-    refusal (s1 b) 1 (t1 b) (time_told _ _ _ (sym c.check-2.ensures ∙ c.enum_told-in_default-check-1.given.1)) c.refused-in_default-check.ensures
+    refusal (s1 b) 1 (t1 b) (time_told _ _ _ (sym c.check-2.ensures ∙ c.in_default-check.is)) c.refused-in_default-check.ensures
 
 pub returns : goal.returns
 returns c =

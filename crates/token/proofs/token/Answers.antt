@@ -56,13 +56,13 @@ s1 c = c
 
 t1 : (c : tie.After-enum-told) → Come 1 (checks (s1 c))
 unfolding token_checks
-t1 c = passes 0 (checks (s1 c)) refl (ap not (sound_told _ _ (sym c.check.ensures ∙ c.enum_told-1.given.1)))
+t1 c = passes 0 (checks (s1 c)) refl (ap not (sound_told _ _ (sym c.check.ensures ∙ c.in-Sound.is)))
 
 abbrev s2 : tie.After-enum-told3 → tie.Start
 s2 c = s1 c
 
 in_time : (c : tie.After-enum-told3) → untimely (l (s2 c)) (s2 c).args.time ≡ false
-in_time c = time_told _ _ _ (sym c.check-2.ensures ∙ c.enum_told-in-Timely-1.given.1)
+in_time c = time_told _ _ _ (sym c.check-2.ensures ∙ c.in-Timely.is)
 
 t2 : (c : tie.After-enum-told3) → Come 2 (checks (s2 c))
 unfolding token_checks
@@ -73,43 +73,43 @@ s3 c = s2 c
 
 t3 : (c : tie.After-enum-told5) → Come 3 (checks (s3 c))
 unfolding token_checks
-t3 c = passes 2 (checks (s3 c)) (t2 c) (ap not (table_told _ _ (sym c.check-3.ensures ∙ c.enum_told-in-Sound-check-1.given.1)))
+t3 c = passes 2 (checks (s3 c)) (t2 c) (ap not (table_told _ _ (sym c.check-3.ensures ∙ c.in-Sound-check.is)))
 
 abbrev s4 : tie.After-enum-told7 → tie.Start
 s4 c = s3 c
 
 t4 : (c : tie.After-enum-told7) → Come 4 (checks (s4 c))
 unfolding token_checks
-t4 c = passes 3 (checks (s4 c)) (t3 c) (ap not (known_told _ _ _ _ (sym c.find.ensures ∙ c.enum_told-in-At-1.given.1)))
+t4 c = passes 3 (checks (s4 c)) (t3 c) (ap not (known_told _ _ _ _ (sym c.find.ensures ∙ c.in-At.is)))
 
 abbrev s13 : tie.After-enum-told9 → tie.Start
 s13 c = s4 c
 
 t13 : (c : tie.After-enum-told9) → Come 5 (checks (s13 c))
 unfolding token_checks
-t13 c = passes 4 (checks (s13 c)) (t4 c) (told _ _ (sym c.key.ensures ∙ c.enum_told-in-Passed-1.given.1))
+t13 c = passes 4 (checks (s13 c)) (t4 c) (told _ _ (sym c.key.ensures ∙ c.in-Passed.is))
 
 abbrev s5 : tie.After-enum-told11 → tie.Start
 s5 c = s13 c
 
 t5 : (c : tie.After-enum-told11) → Come 6 (checks (s5 c))
 unfolding token_checks
-t5 c = passes 5 (checks (s5 c)) (t13 c) (ap not (verifier_well _ (sym c.check-4.ensures ∙ c.enum_told-in-Well-1.given.1)))
+t5 c = passes 5 (checks (s5 c)) (t13 c) (ap not (verifier_well _ (sym c.check-4.ensures ∙ c.in-Well.is)))
 
 abbrev s14 : tie.After-k → tie.Start
 s14 c = s5 c
 
 t14 : (c : tie.After-k) → Come 7 (checks (s14 c))
 unfolding token_checks
-t14 c = passes 6 (checks (s14 c)) (t5 c) (ap not (found_told _ _ _ (sym c.code.ensures ∙ c.k-1.given.1)))
+t14 c = passes 6 (checks (s14 c)) (t5 c) (ap not (found_told _ _ _ (sym c.code.ensures ∙ c.in-At-code.is)))
 
-found_at : (c : tie.After-k) → place (s14 c) ≡ c.k-1.given.0.0
-found_at c = found_place _ _ _ (sym c.code.ensures ∙ c.k-1.given.1)
+found_at : (c : tie.After-k) → place (s14 c) ≡ c.in-At-code.k
+found_at c = found_place _ _ _ (sym c.code.ensures ∙ c.in-At-code.is)
 
-inside : (c : tie.After-k) → c.k-1.given.0.0 < slots (l (s14 c))
-inside c = found_inside (is_code (s14 c).args.code.now (s14 c).args.client.now) _ _ (sym c.code.ensures ∙ c.k-1.given.1)
+inside : (c : tie.After-k) → c.in-At-code.k < slots (l (s14 c))
+inside c = found_inside (is_code (s14 c).args.code.now (s14 c).args.client.now) _ _ (sym c.code.ensures ∙ c.in-At-code.is)
 
-record_is : (c : tie.After-k) {r : List ℕ} → r ≡ rec (l (s14 c)) c.k-1.given.0.0 → r ≡ rec (l (s14 c)) (place (s14 c))
+record_is : (c : tie.After-k) {r : List ℕ} → r ≡ rec (l (s14 c)) c.in-At-code.k → r ≡ rec (l (s14 c)) (place (s14 c))
 record_is c e = e ∙ ap (rec (l (s14 c))) (sym (found_at c))
 
 abbrev k15 : tie.After-enum-told14 → tie.After-k
@@ -117,28 +117,28 @@ k15 c = c
 
 t15 : (c : tie.After-enum-told14) → Come 8 (checks (s14 (k15 c)))
 unfolding token_checks
-t15 c = passes 7 (checks (s14 (k15 c))) (t14 c) (told _ _ (rw (record_is (k15 c) c.at.ensures) at (sym c.unredeemed.ensures ∙ c.enum_told-in-Passed-unredeemed-1.given.1)))
+t15 c = passes 7 (checks (s14 (k15 c))) (t14 c) (told _ _ (rw (record_is (k15 c) c.at.ensures) at (sym c.unredeemed.ensures ∙ c.in-Passed-unredeemed.is)))
 
 abbrev k11 : tie.After-enum-told16 → tie.After-k
 k11 c = k15 c
 
 t11 : (c : tie.After-enum-told16) → Come 9 (checks (s14 (k11 c)))
 unfolding token_checks
-t11 c = passes 8 (checks (s14 (k11 c))) (t15 c) (life_told _ _ _ (rw (record_is (k11 c) c.at-2.ensures) at (sym c.check_life.ensures ∙ c.enum_told-in-Alive-1.given.1)))
+t11 c = passes 8 (checks (s14 (k11 c))) (t15 c) (life_told _ _ _ (rw (record_is (k11 c) c.at-2.ensures) at (sym c.check_life.ensures ∙ c.in-Alive.is)))
 
 abbrev k16 : tie.After-enum-told18 → tie.After-k
 k16 c = k11 c
 
 t16 : (c : tie.After-enum-told18) → Come 10 (checks (s14 (k16 c)))
 unfolding token_checks
-t16 c = passes 9 (checks (s14 (k16 c))) (t11 c) (ap not (matching_same _ _ (rw (record_is (k16 c) c.at-3.ensures) at (sym c.check_verifier.ensures ∙ c.enum_told-in-Same-1.given.1))))
+t16 c = passes 9 (checks (s14 (k16 c))) (t11 c) (ap not (matching_same _ _ (rw (record_is (k16 c) c.at-3.ensures) at (sym c.check_verifier.ensures ∙ c.in-Same.is))))
 
 abbrev k7 : tie.After-enum-told20 → tie.After-k
 k7 c = k16 c
 
 t7 : (c : tie.After-enum-told20) → Come 11 (checks (s14 (k7 c)))
 unfolding token_checks
-t7 c = passes 10 (checks (s14 (k7 c))) (t16 c) (value_told _ _ _ (sym c.check-5.ensures ∙ c.enum_told-in-New-1.given.1))
+t7 c = passes 10 (checks (s14 (k7 c))) (t16 c) (value_told _ _ _ (sym c.check-5.ensures ∙ c.in-New.is))
 
 -- from there back to where the time has passed
 abbrev time_place : tie.After-enum-told20 → tie.After-enum-told3
@@ -150,43 +150,43 @@ pub returns-in_default : goal.returns-in_default
 unfolding token_checks
 returns-in_default c =
     let b = c in
-    refusal (b) 0 refl (ap not (sound_told _ _ (sym c.check.ensures ∙ c.enum_told-in_default-1.given.1))) c.refused.ensures refl
+    refusal (b) 0 refl (ap not (sound_told _ _ (sym c.check.ensures ∙ c.in_default.is))) c.refused.ensures refl
 
 pub returns-in_default-check : goal.returns-in_default-check
 unfolding token_checks
 returns-in_default-check c =
     let b = c in
-    refusal (s1 b) 1 (t1 b) (time_told _ _ _ (sym c.check-2.ensures ∙ c.enum_told-in_default-check-1.given.1)) c.refused-in_default-check.ensures refl
+    refusal (s1 b) 1 (t1 b) (time_told _ _ _ (sym c.check-2.ensures ∙ c.in_default-check.is)) c.refused-in_default-check.ensures refl
 
 pub returns-in_default-check-2 : goal.returns-in_default-check-2
 unfolding token_checks
 returns-in_default-check-2 c =
     let b = c in
-    refusal (s2 b) 2 (t2 b) (ap not (table_told _ _ (sym c.check-3.ensures ∙ c.enum_told-in_default-check-2-1.given.1))) c.refused-in_default-check-2.ensures refl
+    refusal (s2 b) 2 (t2 b) (ap not (table_told _ _ (sym c.check-3.ensures ∙ c.in_default-check-2.is))) c.refused-in_default-check-2.ensures refl
 
 pub returns-in_default-find : goal.returns-in_default-find
 unfolding token_checks
 returns-in_default-find c =
     let b = c in
-    refusal (s3 b) 3 (t3 b) (ap not (known_told _ _ _ _ (sym c.find.ensures ∙ c.enum_told-in_default-find-1.given.1))) c.refused-in_default-find.ensures refl
+    refusal (s3 b) 3 (t3 b) (ap not (known_told _ _ _ _ (sym c.find.ensures ∙ c.in_default-find.is))) c.refused-in_default-find.ensures refl
 
 pub returns-in_default-key : goal.returns-in_default-key
 unfolding token_checks
 returns-in_default-key c =
     let b = c in
-    refusal (s4 b) 4 (t4 b) (told _ _ (sym c.key.ensures ∙ c.enum_told-in_default-key-1.given.1)) c.refused-in_default-key.ensures refl
+    refusal (s4 b) 4 (t4 b) (told _ _ (sym c.key.ensures ∙ c.in_default-key.is)) c.refused-in_default-key.ensures refl
 
 pub returns-in_default-check-3 : goal.returns-in_default-check-3
 unfolding token_checks
 returns-in_default-check-3 c =
     let b = c in
-    refusal (s13 b) 5 (t13 b) (ap not (verifier_ill _ (sym c.check-4.ensures ∙ c.enum_told-in_default-check-3-1.given.1))) c.refused-in_default-check-3.ensures refl
+    refusal (s13 b) 5 (t13 b) (ap not (verifier_ill _ (sym c.check-4.ensures ∙ c.in_default-check-3.is))) c.refused-in_default-check-3.ensures refl
 
 pub returns-in_default-code : goal.returns-in_default-code
 unfolding token_checks
 returns-in_default-code c =
     let b = c in
-    refusal (s5 b) 6 (t5 b) (ap not (found_told _ _ _ (sym c.code.ensures ∙ c.enum_told-in_default-code-1.given.1))) c.refused-in_default-code.ensures refl
+    refusal (s5 b) 6 (t5 b) (ap not (found_told _ _ _ (sym c.code.ensures ∙ c.in_default-code.is))) c.refused-in_default-code.ensures refl
 
 pub end_at-requires : goal.end_at-requires
 end_at-requires c = inside c
@@ -197,26 +197,26 @@ unfolding token_checks
 returns-in_default-unredeemed c =
     let b = c in
     refusal (s14 b) 7 (t14 b)
-    (told _ _ (rw (record_is b c.at.ensures) at (sym c.unredeemed.ensures ∙ c.enum_told-in_default-unredeemed-1.given.1)))
+    (told _ _ (rw (record_is b c.at.ensures) at (sym c.unredeemed.ensures ∙ c.in_default-unredeemed.is)))
     c.refused-in_default-unredeemed.ensures (c.end_at.ensures ∙ ap (ended (l (s14 b)) (s14 b).args.time) (sym (found_at b)))
 
 pub returns-in_default-check_life : goal.returns-in_default-check_life
 unfolding token_checks
 returns-in_default-check_life c =
     let b = c in
-    refusal (s14 (k15 b)) 8 (t15 b) (life_told _ _ _ (rw (record_is (k15 b) c.at-2.ensures) at (sym c.check_life.ensures ∙ c.enum_told-in_default-check_life-1.given.1))) c.refused-in_default-check_life.ensures refl
+    refusal (s14 (k15 b)) 8 (t15 b) (life_told _ _ _ (rw (record_is (k15 b) c.at-2.ensures) at (sym c.check_life.ensures ∙ c.in_default-check_life.is))) c.refused-in_default-check_life.ensures refl
 
 pub returns-in_default-check_verifier : goal.returns-in_default-check_verifier
 unfolding token_checks
 returns-in_default-check_verifier c =
     let b = c in
-    refusal (s14 (k11 b)) 9 (t11 b) (ap not (matching_differs _ _ (rw (record_is (k11 b) c.at-3.ensures) at (sym c.check_verifier.ensures ∙ c.enum_told-in_default-check_verifier-1.given.1)))) c.refused-in_default-check_verifier.ensures refl
+    refusal (s14 (k11 b)) 9 (t11 b) (ap not (matching_differs _ _ (rw (record_is (k11 b) c.at-3.ensures) at (sym c.check_verifier.ensures ∙ c.in_default-check_verifier.is)))) c.refused-in_default-check_verifier.ensures refl
 
 pub returns-in_default-check-4 : goal.returns-in_default-check-4
 unfolding token_checks
 returns-in_default-check-4 c =
     let b = c in
-    refusal (s14 (k16 b)) 10 (t16 b) (value_told _ _ _ (sym c.check-5.ensures ∙ c.enum_told-in_default-check-4-1.given.1)) c.refused-in_default-check-4.ensures refl
+    refusal (s14 (k16 b)) 10 (t16 b) (value_told _ _ _ (sym c.check-5.ensures ∙ c.in_default-check-4.is)) c.refused-in_default-check-4.ensures refl
 
 pub token_at-requires : goal.token_at-requires
 token_at-requires c = (inside (k7 c), timely_lt _ _ (in_time (time_place c)))

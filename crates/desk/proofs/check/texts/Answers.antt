@@ -6,12 +6,12 @@ use Rattle.desk.proofs.check.texts.Goals as goal
 
 pub returns-in_default : goal.returns-in_default
 unfolding texts_test fails_when
-returns-in_default c = rw (redirect_ill _ (sym c.check.ensures ∙ c.enum_told-in_default-1.given.1))
+returns-in_default c = rw (redirect_ill _ (sym c.check.ensures ∙ c.in_default.is))
 
 pub returns-in_default-check : goal.returns-in_default-check
 unfolding texts_test fails_when
-returns-in_default-check c = rw (challenge_ill _ (sym c.check-2.ensures ∙ c.enum_told-in_default-check-1.given.1), and-false)
+returns-in_default-check c = rw (challenge_ill _ (sym c.check-2.ensures ∙ c.in_default-check.is), and-false)
 
 pub returns : goal.returns
 unfolding texts_test fails_when
-returns c = rw (redirect_well _ (sym c.check.ensures ∙ c.enum_told-1.given.1), challenge_well _ (sym c.check-2.ensures ∙ c.enum_told-in-Well-check-1.given.1))
+returns c = rw (redirect_well _ (sym c.check.ensures ∙ c.in-Well.is), challenge_well _ (sym c.check-2.ensures ∙ c.in-Well-check.is))

@@ -6,23 +6,23 @@ use Rattle.wire.specs.declared.kind.Kind.TheVariants.{Start, Push, Decide, Token
 use Rattle.frames.proofs.call.call.Goals as goal
 
 pub push-requires : goal.push-requires
-push-requires c = least_of c.enum_told-1.given.1 c.requires.0
+push-requires c = least_of c.in-Push.is c.requires.0
 
 pub decide-d-requires : goal.decide-d-requires
-decide-d-requires c = least_of c.enum_told-in-Decide-1.given.1 c.requires.0
+decide-d-requires c = least_of c.in-Decide.is c.requires.0
 
 pub token-requires : goal.token-requires
-token-requires c = least_of c.enum_told-in-Token-1.given.1 c.requires.0
+token-requires c = least_of c.in-Token.is c.requires.0
 
 pub resource-requires : goal.resource-requires
-resource-requires c = least_of c.enum_told-in-Resource-1.given.1 c.requires.0
+resource-requires c = least_of c.in-Resource.is c.requires.0
 
 pub returns-in-Push : goal.returns-in-Push
 unfolding pushed
 returns-in-Push c =
     let a = c.args in
     let p = c in
-    (search rules, by_call Push a.f.now a.ledger.now a.table.now p.enum_told-1.given.1 (by_outcome p.push.ensures c.write_answer.ensures.1))
+    (search rules, by_call Push a.f.now a.ledger.now a.table.now p.in-Push.is (by_outcome p.push.ensures c.write_answer.ensures.1))
 
 pub returns-in-Decide : goal.returns-in-Decide
 unfolding decided
@@ -31,34 +31,34 @@ returns-in-Decide c =
     let p3 = c in
     let p2 = p3 in
     let p1 = p2 in
-    (search rules, by_call Decide a.f.now a.ledger.now a.table.now p1.enum_told-in-Decide-1.given.1 (by_decision _ _ _ p2.decide-d.ensures p1.blank_redirect-redirect.ensures p3.write_decided.ensures.1))
+    (search rules, by_call Decide a.f.now a.ledger.now a.table.now p1.in-Decide.is (by_decision _ _ _ p2.decide-d.ensures p1.blank_redirect-redirect.ensures p3.write_decided.ensures.1))
 
 pub returns-in-Token : goal.returns-in-Token
 unfolding redeemed
 returns-in-Token c =
     let a = c.args in
     let p = c in
-    (search rules, by_call Token a.f.now a.ledger.now a.table.now p.enum_told-in-Token-1.given.1 (by_outcome p.token.ensures c.write_answer-in-Token.ensures.1))
+    (search rules, by_call Token a.f.now a.ledger.now a.table.now p.in-Token.is (by_outcome p.token.ensures c.write_answer-in-Token.ensures.1))
 
 pub returns-in-Resource : goal.returns-in-Resource
 unfolding read
 returns-in-Resource c =
     let a = c.args in
     let p = c in
-    (search rules, by_call Resource a.f.now a.ledger.now a.table.now p.enum_told-in-Resource-1.given.1 (by_outcome p.resource.ensures c.write_answer-in-Resource.ensures.1))
+    (search rules, by_call Resource a.f.now a.ledger.now a.table.now p.in-Resource.is (by_outcome p.resource.ensures c.write_answer-in-Resource.ensures.1))
 
 pub returns-in-Sweep : goal.returns-in-Sweep
 unfolding swept
 returns-in-Sweep c =
     let a = c.args in
     let p = c in
-    (search rules, by_call Sweep a.f.now a.ledger.now a.table.now p.enum_told-in-Sweep-1.given.1 (by_sweeping p.sweep.ensures c.write_swept.ensures.1))
+    (search rules, by_call Sweep a.f.now a.ledger.now a.table.now p.in-Sweep.is (by_sweeping p.sweep.ensures c.write_swept.ensures.1))
 
 pub returns-in-Start : goal.returns-in-Start
-returns-in-Start c = (search rules, by_call Start _ _ _ c.enum_told-in-Start-1.given.1 refl)
+returns-in-Start c = (search rules, by_call Start _ _ _ c.in-Start.is refl)
 
 pub returns-in-Client : goal.returns-in-Client
-returns-in-Client c = (search rules, by_call Client _ _ _ c.enum_told-in-Client-1.given.1 refl)
+returns-in-Client c = (search rules, by_call Client _ _ _ c.in-Client.is refl)
 
 pub returns-in-NoFrame : goal.returns-in-NoFrame
-returns-in-NoFrame c = (search rules, by_call NoFrame _ _ _ c.enum_told-in-NoFrame-1.given.1 refl)
+returns-in-NoFrame c = (search rules, by_call NoFrame _ _ _ c.in-NoFrame.is refl)
