@@ -13,86 +13,78 @@ use Rattle.introspect.proofs.Texts.{short_told, short_stays, long_told, long_is,
 use Rattle.ledger.proofs.Tests.{sound_told, time_told}
 use Rattle.introspect.proofs.introspect.Goals as goal
 
-abbrev l : tie.Start → List ℕ
-l s = s.args.ledger.now
+abbrev text : (l : List ℕ) (time : ℕ) (v : List ℕ) (out : List ℕ) → List ℕ
+text l time v out = text_for l time v
 
-abbrev out : tie.Start → List ℕ
-out s = s.args.output.now
+abbrev checks : (l : List ℕ) (time : ℕ) (v : List ℕ) (out : List ℕ) → List Check
+checks l time v out = introspect_checks l time v out
 
-abbrev text : tie.Start → List ℕ
-text s = text_for (l s) s.args.time s.args.token.now
-
-abbrev checks : tie.Start → List Check
-checks s = introspect_checks (l s) s.args.time s.args.token.now (out s)
-
-abbrev outcome : tie.Start → Outcome Introspected
-outcome s = introspect (l s) s.args.time s.args.token.now (out s)
+abbrev outcome : (l : List ℕ) (time : ℕ) (v : List ℕ) (out : List ℕ) → Outcome Introspected
+outcome l time v out = introspect l time v out
 
 -- the check whose turn has come fails: its row is answered
-refusal : (s : tie.Start) (n : ℕ) → Come n (checks s) → (nth n (checks s)).holds ≡ true → {a : Introspected} → a ≡ untold (nth n (checks s)).why
-    → left_with a (l s) (out s) ≡ outcome s
+refusal : (l : List ℕ) (time : ℕ) (v : List ℕ) (out : List ℕ) (n : ℕ) → Come n (checks l time v out) → (nth n (checks l time v out)).holds ≡ true → {a : Introspected} → a ≡ untold (nth n (checks l time v out)).why
+    → left_with a l out ≡ outcome l time v out
 unfolding introspect
-refusal s n t h e =
-    refuses e (ap (λ (o : Verdict). concludes o (introspect_leaves (l s) (out s)) (introspect_with (l s) (out s) (text s))) (stops n (checks s) t h))
+refusal l time v out n t h e =
+    refuses e (ap (λ (o : Verdict). concludes o (introspect_leaves l out) (introspect_with l out (text l time v out))) (stops n (checks l time v out) t h))
 
 -- none is left: the text is written
-acceptance : (s : tie.Start) → Come 3 (checks s) → outcome s ≡ introspect_with (l s) (out s) (text s)
+acceptance : (l : List ℕ) (time : ℕ) (v : List ℕ) (out : List ℕ) → Come 3 (checks l time v out) → outcome l time v out ≡ introspect_with l out (text l time v out)
 unfolding introspect introspect_checks
-acceptance s t = ap (λ (o : Verdict). concludes o (introspect_leaves (l s) (out s)) (introspect_with (l s) (out s) (text s))) (all_pass 3 (checks s) t refl)
+acceptance l time v out t = ap (λ (o : Verdict). concludes o (introspect_leaves l out) (introspect_with l out (text l time v out))) (all_pass 3 (checks l time v out) t refl)
 
--- ---- where the check of a number has passed: the start, and that the turn has come to the next one
-
-abbrev s1 : tie.After-enum-told → tie.Start
-s1 c = c
-
-t1 : (c : tie.After-enum-told) → Come 1 (checks (s1 c))
-unfolding introspect_checks
-t1 c = passes 0 (checks (s1 c)) refl (ap not (sound_told _ _ (sym c.check.ensures ∙ c.in-Sound.is)))
-
-abbrev s2 : tie.After-enum-told3 → tie.Start
-s2 c = s1 c
-
-t2 : (c : tie.After-enum-told3) → Come 2 (checks (s2 c))
-unfolding introspect_checks
-t2 c = passes 1 (checks (s2 c)) (t1 c) (time_told _ _ _ (sym c.check-2.ensures ∙ c.in-Timely.is))
-
--- ---- what the text's writer answers and leaves
-
-module _ (s : tie.Start) (a : Written) (x : List ℕ) (wrote : (a ≡ written (text s) (out s)) × (x ≡ written_over (text s) (out s))) (t : Come 2 (checks s)) where
-  too_short : a ≡ Short → {i : Introspected} → i ≡ untold (nth 2 (checks s)).why → left_with i (l s) x ≡ outcome s
+module _ (l : List ℕ) (time : ℕ) (v out : List ℕ) (a : Written) (x : List ℕ) (wrote : (a ≡ written (text l time v out) out) × (x ≡ written_over (text l time v out) out)) (t : Come 2 (checks l time v out)) where
+  too_short : a ≡ Short → {i : Introspected} → i ≡ untold (nth 2 (checks l time v out)).why → left_with i l x ≡ outcome l time v out
   unfolding introspect_checks
   too_short e h =
       let w = sym wrote.0 ∙ e in
-      ap (left_with _ (l s)) (wrote.1 ∙ short_stays (text s) (out s) w) ∙ refusal s 2 t (short_told (text s) (out s) w) h
+      ap (left_with _ l) (wrote.1 ∙ short_stays (text l time v out) out w) ∙ refusal l time v out 2 t (short_told (text l time v out) out w) h
 
-  long-enough : (n : ℕ) → a ≡ Length n → {i : Introspected} → i ≡ introspected n → left_with i (l s) x ≡ outcome s
+  long_enough : (n : ℕ) → a ≡ Length n → {i : Introspected} → i ≡ introspected n → left_with i l x ≡ outcome l time v out
   unfolding introspect_checks introspect_with
-  long-enough n e h =
+  long_enough n e h =
       let w = sym wrote.0 ∙ e in
-      let y = acceptance s (passes 2 (checks s) t (long_told (text s) (out s) n w)) in
-      rw (h, wrote.1, long_over (text s) (out s) n w, long_is (text s) (out s) n w) (sym y)
-
--- ---- the returns
+      let y = acceptance l time v out (passes 2 (checks l time v out) t (long_told (text l time v out) out n w)) in
+      rw (h, wrote.1, long_over (text l time v out) out n w, long_is (text l time v out) out n w) (sym y)
 
 pub returns-in_default : goal.returns-in_default
 unfolding introspect_checks
 returns-in_default c =
-    let b = c in
-    refusal b 0 refl (ap not (sound_told _ _ (sym c.check.ensures ∙ c.in_default.is))) c.refused.ensures
+    let l = c.args.ledger.now in
+    let time = c.args.time in
+    let v = c.args.token.now in
+    let out = c.args.output.now in
+    refusal l time v out 0 refl (ap not (sound_told _ _ (sym c.check.ensures ∙ c.in_default.is))) c.refused.ensures
 
 pub returns-in_default-check : goal.returns-in_default-check
 unfolding introspect_checks
 returns-in_default-check c =
-    let b = c in
-    refusal (s1 b) 1 (t1 b) (time_told _ _ _ (sym c.check-2.ensures ∙ c.in_default-check.is)) c.refused-in_default-check.ensures
+    let l = c.args.ledger.now in
+    let time = c.args.time in
+    let v = c.args.token.now in
+    let out = c.args.output.now in
+    let t1 : Come 1 (checks l time v out) = passes 0 (checks l time v out) refl (ap not (sound_told _ _ (sym c.check.ensures ∙ c.in-Sound.is))) in
+    refusal l time v out 1 t1 (time_told _ _ _ (sym c.check-2.ensures ∙ c.in_default-check.is)) c.refused-in_default-check.ensures
 
 pub returns-in_default-describe : goal.returns-in_default-describe
 unfolding introspect_checks
 returns-in_default-describe c =
-    let b = c in
-    too_short (s2 b) _ _ c.describe.ensures (t2 b) c.in_default-describe.is c.refused-in_default-describe.ensures
+    let l = c.args.ledger.now in
+    let time = c.args.time in
+    let v = c.args.token.now in
+    let out = c.args.output.now in
+    let t1 : Come 1 (checks l time v out) = passes 0 (checks l time v out) refl (ap not (sound_told _ _ (sym c.check.ensures ∙ c.in-Sound.is))) in
+    let t2 : Come 2 (checks l time v out) = passes 1 (checks l time v out) t1 (time_told _ _ _ (sym c.check-2.ensures ∙ c.in-Timely.is)) in
+    too_short l time v out _ _ c.describe.ensures t2 c.in_default-describe.is c.refused-in_default-describe.ensures
 
 pub returns : goal.returns
+unfolding introspect_checks
 returns c =
-    let b = c in
-    long-enough (s2 b) _ _ c.describe.ensures (t2 b) _ c.in-Length.is c.with.ensures
+    let l = c.args.ledger.now in
+    let time = c.args.time in
+    let v = c.args.token.now in
+    let out = c.args.output.now in
+    let t1 : Come 1 (checks l time v out) = passes 0 (checks l time v out) refl (ap not (sound_told _ _ (sym c.check.ensures ∙ c.in-Sound.is))) in
+    let t2 : Come 2 (checks l time v out) = passes 1 (checks l time v out) t1 (time_told _ _ _ (sym c.check-2.ensures ∙ c.in-Timely.is)) in
+    long_enough l time v out _ _ c.describe.ensures t2 _ c.in-Length.is c.with.ensures

@@ -12,117 +12,97 @@ use Rattle.ledger.proofs.Tests.{sound_told, time_told, life_told, found_told, fo
 use Rattle.ledger.specs.Fields.{rec}
 use Rattle.pending.proofs.pending.Goals as goal
 
-abbrev l : tie.Start → List ℕ
-l s = s.args.ledger.now
+abbrev place : (l : List ℕ) (time : ℕ) (request : PendingRequest) (out : List ℕ) → ℕ
+place l time request out = pending_place l request
 
-abbrev out : tie.Start → List ℕ
-out s = s.args.output.now
+abbrev checks : (l : List ℕ) (time : ℕ) (request : PendingRequest) (out : List ℕ) → List Check
+checks l time request out = pending_checks l time request out (place l time request out)
 
-abbrev request : tie.Start → PendingRequest
-request s = record { reference = s.args.reference.now; client = s.args.client.now }
+abbrev done : (l : List ℕ) (time : ℕ) (request : PendingRequest) (out : List ℕ) → Outcome Decided
+done l time request out = pending_at l out (place l time request out)
 
-abbrev place : tie.Start → ℕ
-place s = pending_place (l s) (request s)
-
-abbrev checks : tie.Start → List Check
-checks s = pending_checks (l s) s.args.time (request s) (out s) (place s)
-
-abbrev done : tie.Start → Outcome Decided
-done s = pending_at (l s) (out s) (place s)
-
-abbrev outcome : tie.Start → Outcome Decided
-outcome s = pending (l s) s.args.time (request s) (out s)
+abbrev outcome : (l : List ℕ) (time : ℕ) (request : PendingRequest) (out : List ℕ) → Outcome Decided
+outcome l time request out = pending l time request out
 
 -- the check whose turn has come fails: its row is answered
-refusal : (s : tie.Start) (n : ℕ) {a : Decided} → Come n (checks s) → (nth n (checks s)).holds ≡ true → a ≡ undecided (nth n (checks s)).why
-    → left_with a (l s) (out s) ≡ outcome s
+refusal : (l : List ℕ) (time : ℕ) (request : PendingRequest) (out : List ℕ) (n : ℕ) {a : Decided} → Come n (checks l time request out) → (nth n (checks l time request out)).holds ≡ true → a ≡ undecided (nth n (checks l time request out)).why
+    → left_with a l out ≡ outcome l time request out
 unfolding pending
-refusal s n t h e = refuses e (ap (λ (v : Verdict). concludes v (pending_leaves (l s) (out s)) (done s)) (stops n (checks s) t h))
+refusal l time request out n t h e = refuses e (ap (λ (v : Verdict). concludes v (pending_leaves l out) (done l time request out)) (stops n (checks l time request out) t h))
 
 -- none is left: the request is shown
-acceptance : (s : tie.Start) → Come 5 (checks s) → outcome s ≡ done s
+acceptance : (l : List ℕ) (time : ℕ) (request : PendingRequest) (out : List ℕ) → Come 5 (checks l time request out) → outcome l time request out ≡ done l time request out
 unfolding pending pending_checks
-acceptance s t = ap (λ (v : Verdict). concludes v (pending_leaves (l s) (out s)) (done s)) (all_pass 5 (checks s) t refl)
-
--- ---- where the check of a number has passed: the start, and that the turn has come to the next one
-
-abbrev s1 : tie.After-enum-told → tie.Start
-s1 c = c
-
-t1 : (c : tie.After-enum-told) → Come 1 (checks (s1 c))
-unfolding pending_checks
-t1 c = passes 0 (checks (s1 c)) refl (ap not (sound_told _ _ (sym c.check.ensures ∙ c.in-Sound.is)))
-
-abbrev s2 : tie.After-enum-told3 → tie.Start
-s2 c = s1 c
-
-t2 : (c : tie.After-enum-told3) → Come 2 (checks (s2 c))
-unfolding pending_checks
-t2 c = passes 1 (checks (s2 c)) (t1 c) (time_told _ _ _ (sym c.check-2.ensures ∙ c.in-Timely.is))
-
-abbrev s20 : tie.After-enum-told5 → tie.Start
-s20 c = s2 c
-
-t20 : (c : tie.After-enum-told5) → Come 3 (checks (s20 c))
-unfolding pending_checks
-t20 c = passes 2 (checks (s20 c)) (t2 c) (told _ _ (sym c.room.ensures ∙ c.in-Passed.is))
-
-abbrev s10 : tie.After-k → tie.Start
-s10 c = s20 c
-
-t10 : (c : tie.After-k) → Come 4 (checks (s10 c))
-unfolding pending_checks
-t10 c = passes 3 (checks (s10 c)) (t20 c) (ap not (found_told _ _ _ (sym c.reference.ensures ∙ c.in-At.is)))
-
-abbrev sr : tie.After-at → tie.Start
-sr c = s10 c
-
-record_is : (c : tie.After-at) → c.at-r.result.now ≡ rec (l (sr c)) (place (sr c))
-record_is c = c.at-r.ensures ∙ ap (rec (l (sr c))) (sym (found_place _ _ _ (sym c.reference.ensures ∙ c.in-At.is)))
-
-abbrev r11 : tie.After-enum-told8 → tie.After-at
-r11 c = c
-
-t11 : (c : tie.After-enum-told8) → Come 5 (checks (sr (r11 c)))
-unfolding pending_checks
-t11 c = passes 4 (checks (sr (r11 c))) (t10 (r11 c)) (life_told _ _ _ (rw (record_is (r11 c)) at (sym c.check_life.ensures ∙ c.in-Alive.is)))
-
--- ---- the returns
+acceptance l time request out t = ap (λ (v : Verdict). concludes v (pending_leaves l out) (done l time request out)) (all_pass 5 (checks l time request out) t refl)
 
 pub returns-in_default : goal.returns-in_default
 unfolding pending_checks
 returns-in_default c =
-    let b = c in
-    refusal (b) 0 refl (ap not (sound_told _ _ (sym c.check.ensures ∙ c.in_default.is))) c.refused.ensures
+    let l = c.args.ledger.now in
+    let time = c.args.time in
+    let request : PendingRequest = record { reference = c.args.reference.now; client = c.args.client.now } in
+    let out = c.args.output.now in
+    refusal l time request out 0 refl (ap not (sound_told _ _ (sym c.check.ensures ∙ c.in_default.is))) c.refused.ensures
 
 pub returns-in_default-check : goal.returns-in_default-check
 unfolding pending_checks
 returns-in_default-check c =
-    let b = c in
-    refusal (s1 b) 1 (t1 b) (time_told _ _ _ (sym c.check-2.ensures ∙ c.in_default-check.is)) c.refused-in_default-check.ensures
+    let l = c.args.ledger.now in
+    let time = c.args.time in
+    let request : PendingRequest = record { reference = c.args.reference.now; client = c.args.client.now } in
+    let out = c.args.output.now in
+    let t1 : Come 1 (checks l time request out) = passes 0 (checks l time request out) refl (ap not (sound_told _ _ (sym c.check.ensures ∙ c.in-Sound.is))) in
+    refusal l time request out 1 t1 (time_told _ _ _ (sym c.check-2.ensures ∙ c.in_default-check.is)) c.refused-in_default-check.ensures
 
 pub returns-in_default-room : goal.returns-in_default-room
 unfolding pending_checks
 returns-in_default-room c =
-    let b = c in
-    refusal (s2 b) 2 (t2 b) (told _ _ (sym c.room.ensures ∙ c.in_default-room.is)) c.refused-in_default-room.ensures
+    let l = c.args.ledger.now in
+    let time = c.args.time in
+    let request : PendingRequest = record { reference = c.args.reference.now; client = c.args.client.now } in
+    let out = c.args.output.now in
+    let t1 : Come 1 (checks l time request out) = passes 0 (checks l time request out) refl (ap not (sound_told _ _ (sym c.check.ensures ∙ c.in-Sound.is))) in
+    let t2 : Come 2 (checks l time request out) = passes 1 (checks l time request out) t1 (time_told _ _ _ (sym c.check-2.ensures ∙ c.in-Timely.is)) in
+    refusal l time request out 2 t2 (told _ _ (sym c.room.ensures ∙ c.in_default-room.is)) c.refused-in_default-room.ensures
 
 pub returns-in_default-reference : goal.returns-in_default-reference
 unfolding pending_checks
 returns-in_default-reference c =
-    let b = c in
-    refusal (s20 b) 3 (t20 b) (ap not (found_told _ _ _ (sym c.reference.ensures ∙ c.in_default-reference.is))) c.refused-in_default-reference.ensures
+    let l = c.args.ledger.now in
+    let time = c.args.time in
+    let request : PendingRequest = record { reference = c.args.reference.now; client = c.args.client.now } in
+    let out = c.args.output.now in
+    let t1 : Come 1 (checks l time request out) = passes 0 (checks l time request out) refl (ap not (sound_told _ _ (sym c.check.ensures ∙ c.in-Sound.is))) in
+    let t2 : Come 2 (checks l time request out) = passes 1 (checks l time request out) t1 (time_told _ _ _ (sym c.check-2.ensures ∙ c.in-Timely.is)) in
+    let t20 : Come 3 (checks l time request out) = passes 2 (checks l time request out) t2 (told _ _ (sym c.room.ensures ∙ c.in-Passed.is)) in
+    refusal l time request out 3 t20 (ap not (found_told _ _ _ (sym c.reference.ensures ∙ c.in_default-reference.is))) c.refused-in_default-reference.ensures
 
 pub returns-in_default-check_life : goal.returns-in_default-check_life
 unfolding pending_checks
 returns-in_default-check_life c =
-    let b = c in
-    refusal (sr b) 4 (t10 b) (life_told _ _ _ (rw (record_is b) at (sym c.check_life.ensures ∙ c.in_default-check_life.is))) c.refused-in_default-check_life.ensures
+    let l = c.args.ledger.now in
+    let time = c.args.time in
+    let request : PendingRequest = record { reference = c.args.reference.now; client = c.args.client.now } in
+    let out = c.args.output.now in
+    let t1 : Come 1 (checks l time request out) = passes 0 (checks l time request out) refl (ap not (sound_told _ _ (sym c.check.ensures ∙ c.in-Sound.is))) in
+    let t2 : Come 2 (checks l time request out) = passes 1 (checks l time request out) t1 (time_told _ _ _ (sym c.check-2.ensures ∙ c.in-Timely.is)) in
+    let t20 : Come 3 (checks l time request out) = passes 2 (checks l time request out) t2 (told _ _ (sym c.room.ensures ∙ c.in-Passed.is)) in
+    let t10 : Come 4 (checks l time request out) = passes 3 (checks l time request out) t20 (ap not (found_told _ _ _ (sym c.reference.ensures ∙ c.in-At.is))) in
+    let record_is : c.at-r.result.now ≡ rec l (place l time request out) = c.at-r.ensures ∙ ap (rec l) (sym (found_place _ _ _ (sym c.reference.ensures ∙ c.in-At.is))) in
+    refusal l time request out 4 t10 (life_told _ _ _ (rw record_is at (sym c.check_life.ensures ∙ c.in_default-check_life.is))) c.refused-in_default-check_life.ensures
 
 pub returns : goal.returns
+unfolding pending_checks
 returns c =
-    let h = c in
-    let b = h in
-    let s = sr (r11 b) in
-    pending_shown (l s) (out s) (place s) _ _ _ _ _ (record_is (r11 b)) h.hand_out.ensures c.of.ensures c.redirect_length.ensures c.with.ensures
-    ∙ sym (acceptance s (t11 b))
+    let l = c.args.ledger.now in
+    let time = c.args.time in
+    let request : PendingRequest = record { reference = c.args.reference.now; client = c.args.client.now } in
+    let out = c.args.output.now in
+    let record_is : c.at-r.result.now ≡ rec l (place l time request out) = c.at-r.ensures ∙ ap (rec l) (sym (found_place _ _ _ (sym c.reference.ensures ∙ c.in-At.is))) in
+    let t1 : Come 1 (checks l time request out) = passes 0 (checks l time request out) refl (ap not (sound_told _ _ (sym c.check.ensures ∙ c.in-Sound.is))) in
+    let t2 : Come 2 (checks l time request out) = passes 1 (checks l time request out) t1 (time_told _ _ _ (sym c.check-2.ensures ∙ c.in-Timely.is)) in
+    let t20 : Come 3 (checks l time request out) = passes 2 (checks l time request out) t2 (told _ _ (sym c.room.ensures ∙ c.in-Passed.is)) in
+    let t10 : Come 4 (checks l time request out) = passes 3 (checks l time request out) t20 (ap not (found_told _ _ _ (sym c.reference.ensures ∙ c.in-At.is))) in
+    let t11 : Come 5 (checks l time request out) = passes 4 (checks l time request out) t10 (life_told _ _ _ (rw record_is at (sym c.check_life.ensures ∙ c.in-Alive.is))) in
+    pending_shown l out (place l time request out) _ _ _ _ _ record_is c.hand_out.ensures c.of.ensures c.redirect_length.ensures c.with.ensures
+    ∙ sym (acceptance l time request out t11)

@@ -21,218 +21,204 @@ use Rattle.ledger.specs.Fields.{slots, next_number}
 use Rattle.ledger.specs.Limits.{last_number}
 use Rattle.push.proofs.push.Goals as goal
 
-abbrev l : tie.Start → List ℕ
-l s = s.args.ledger.now
+abbrev checks : (l : List ℕ) (time : ℕ) (table : List ℕ) (request : PushRequest) → List Check
+checks l time table request = push_checks l time table request
 
-abbrev table : tie.Start → List ℕ
-table s = s.args.table.now
+abbrev done : (l : List ℕ) (time : ℕ) (table : List ℕ) (request : PushRequest) → Outcome Answer
+done l time table request = push_at l time table request (free_place l)
 
-abbrev request : tie.Start → PushRequest
-request s = record { client = s.args.client.now; key = s.args.key.now; scope = s.args.scope; challenge = s.args.challenge.now; redirect = s.args.redirect.now; fresh = s.args.fresh.now }
-
-abbrev checks : tie.Start → List Check
-checks s = push_checks (l s) s.args.time (table s) (request s)
-
-abbrev done : tie.Start → Outcome Answer
-done s = push_at (l s) s.args.time (table s) (request s) (free_place (l s))
-
-abbrev outcome : tie.Start → Outcome Answer
-outcome s = push (l s) s.args.time (table s) (request s)
+abbrev outcome : (l : List ℕ) (time : ℕ) (table : List ℕ) (request : PushRequest) → Outcome Answer
+outcome l time table request = push l time table request
 
 -- the check whose turn has come fails: its row is answered
-refusal : (s : tie.Start) (n : ℕ) {a : Answer} → Come n (checks s) → (nth n (checks s)).holds ≡ true → a ≡ refused (nth n (checks s)).why → left a (l s) ≡ outcome s
+refusal : (l : List ℕ) (time : ℕ) (table : List ℕ) (request : PushRequest) (n : ℕ) {a : Answer} → Come n (checks l time table request) → (nth n (checks l time table request)).holds ≡ true → a ≡ refused (nth n (checks l time table request)).why → left a l ≡ outcome l time table request
 unfolding push
-refusal s n t h e = refuses e (ap (λ (v : Verdict). concludes v (push_leaves (l s)) (done s)) (stops n (checks s) t h))
+refusal l time table request n t h e = refuses e (ap (λ (v : Verdict). concludes v (push_leaves l) (done l time table request)) (stops n (checks l time table request) t h))
 
 -- none is left: the call is done
-acceptance : (s : tie.Start) → Come 9 (checks s) → outcome s ≡ done s
+acceptance : (l : List ℕ) (time : ℕ) (table : List ℕ) (request : PushRequest) → Come 9 (checks l time table request) → outcome l time table request ≡ done l time table request
 unfolding push push_checks
-acceptance s t = ap (λ (v : Verdict). concludes v (push_leaves (l s)) (done s)) (all_pass 9 (checks s) t refl)
-
--- ---- where the check of a number has passed: the start, and that the turn has come to the next one
-
-abbrev s1 : tie.After-enum-told → tie.Start
-s1 c = c
-
-t1 : (c : tie.After-enum-told) → Come 1 (checks (s1 c))
-unfolding push_checks
-t1 c = passes 0 (checks (s1 c)) refl (ap not (sound_told _ _ (sym c.check.ensures ∙ c.in-Sound.is)))
-
-abbrev s2 : tie.After-enum-told3 → tie.Start
-s2 c = s1 c
-
-in_time : (c : tie.After-enum-told3) → untimely (l (s2 c)) (s2 c).args.time ≡ false
-in_time c = time_told _ _ _ (sym c.check-2.ensures ∙ c.in-Timely.is)
-
-t2 : (c : tie.After-enum-told3) → Come 2 (checks (s2 c))
-unfolding push_checks
-t2 c = passes 1 (checks (s2 c)) (t1 c) (in_time c)
-
-abbrev s3 : tie.After-enum-told5 → tie.Start
-s3 c = s2 c
-
-t3 : (c : tie.After-enum-told5) → Come 3 (checks (s3 c))
-unfolding push_checks
-t3 c = passes 2 (checks (s3 c)) (t2 c) (ap not (table_told _ _ (sym c.check-3.ensures ∙ c.in-Sound-check.is)))
-
-abbrev s4 : tie.After-who → tie.Start
-s4 c = s3 c
-
-t4 : (c : tie.After-who) → Come 4 (checks (s4 c))
-unfolding push_checks
-t4 c = passes 3 (checks (s4 c)) (t3 c) (ap not (known_told _ _ _ _ (sym c.find.ensures ∙ c.in-At.is)))
-
-who_at : (c : tie.After-who) → place_of (table (s4 c)) (s4 c).args.client.now ≡ c.in-At.who
-who_at c = known_place _ _ _ _ (sym c.find.ensures ∙ c.in-At.is)
-
-abbrev s5 : tie.After-enum-told8 → tie.Start
-s5 c = s4 c
-
-t5 : (c : tie.After-enum-told8) → Come 5 (checks (s5 c))
-unfolding push_checks
-t5 c = passes 4 (checks (s5 c)) (t4 c) (ap not (texts_told _ _ _ (sym c.texts.ensures ∙ c.in-Passed.is)))
-
-abbrev sp : tie.After-permitted → tie.Start
-sp c = s5 c
-
-permits : (c : tie.After-permitted) → permitted (client_record (table (sp c)) (request (sp c))) ≡ c.permitted.result
-permits c = sym (c.permitted.ensures ∙ ap (λ (k : ℕ). permitted (client (table (sp c)) k)) (sym (who_at c)))
+acceptance l time table request t = ap (λ (v : Verdict). concludes v (push_leaves l) (done l time table request)) (all_pass 9 (checks l time table request) t refl)
 
 -- the scope decision, by the client's record
-decided : (c : tie.After-permitted) {a b : Bits} → a ≡ scope_decision (sp c).args.scope c.permitted.result → a ≡ b
-    → scope_decision (sp c).args.scope (permitted (client_record (table (sp c)) (request (sp c)))) ≡ b
-decided c e f = ap (scope_decision (sp c).args.scope) (permits c) ∙ sym e ∙ f
+decided : (table : List ℕ) (request : PushRequest) {w m : ℕ} {a b : Bits} → place_of table request.client ≡ w → m ≡ permitted (client table w)
+    → a ≡ scope_decision request.scope m → a ≡ b → scope_decision request.scope (permitted (client_record table request)) ≡ b
+decided table request p q e f =
+    ap (scope_decision request.scope) (sym (q ∙ ap (λ (k : ℕ). permitted (client table k)) (sym p))) ∙ sym e ∙ f
 
-abbrev s6 : tie.After-bits → tie.Start
-s6 c = s5 c
-
-t6 : (c : tie.After-bits) → Come 6 (checks (s6 c))
-unfolding push_checks
-t6 c = passes 5 (checks (s6 c)) (t5 c) (ap not (scope_told _ _ _ (decided c c.granted.ensures c.in-Granted.is)))
-
-bits_are : (c : tie.After-bits) → granted_bits (s6 c).args.scope (permitted (client_record (table (s6 c)) (request (s6 c)))) ≡ c.in-Granted.bits
-bits_are c = scope_bits _ _ _ (decided c c.granted.ensures c.in-Granted.is)
-
-abbrev s7 : tie.After-enum-told11 → tie.Start
-s7 c = s6 c
-
-t7 : (c : tie.After-enum-told11) → Come 7 (checks (s7 c))
-unfolding push_checks
-t7 c = passes 6 (checks (s7 c)) (t6 c) (value_told _ _ _ (sym c.check-4.ensures ∙ c.in-New.is))
-
-abbrev s8 : tie.After-k → tie.Start
-s8 c = s7 c
-
-t8 : (c : tie.After-k) → Come 8 (checks (s8 c))
-unfolding push_checks
-t8 c = passes 7 (checks (s8 c)) (t7 c) (ap not (found_told _ _ _ (sym c.free.ensures ∙ c.in-At-free.is)))
-
-free_at : (c : tie.After-k) → free_place (l (s8 c)) ≡ c.in-At-free.k
-free_at c = found_place _ _ _ (sym c.free.ensures ∙ c.in-At-free.is)
-
-inside : (c : tie.After-k) → c.in-At-free.k < slots (l (s8 c))
-inside c = found_inside is_free _ _ (sym c.free.ensures ∙ c.in-At-free.is)
-
-abbrev s9 : tie.After-enum-told14 → tie.Start
-s9 c = s8 c
-
-number_left : (c : tie.After-enum-told14) → eqb (next_number (l (s9 c))) last_number ≡ false
-number_left c = told _ _ (ap (λ (n : ℕ). fails_when (eqb n last_number)) (sym c.next_number-number.ensures) ∙ sym c.number.ensures ∙ c.in-Passed-number.is)
-
-t9 : (c : tie.After-enum-told14) → Come 9 (checks (s9 c))
-unfolding push_checks
-t9 c = passes 8 (checks (s9 c)) (t8 c) (number_left c)
-
--- back to where the time has passed
-abbrev time_place : tie.After-enum-told14 → tie.After-enum-told3
-time_place c = c
-
--- back to where the client is found, whose record the lifetime is read off
-abbrev who_place : tie.After-enum-told14 → tie.After-who
-who_place c = c
-
-lives : (c : tie.After-who) → lifetime_of (client (table (s4 c)) c.in-At.who) ≤ lifetime_most
-lives c =
-    known_most _ _ _ _ (table_told _ _ (sym c.check-3.ensures ∙ c.in-Sound-check.is))
-    (sym c.find.ensures ∙ c.in-At.is)
-
-lasts : (c : tie.After-who) {n : ℕ} {r : List ℕ} → n ≡ lifetime_of r → r ≡ client (table (s4 c)) c.in-At.who → n ≡ lifetime (table (s4 c)) (request (s4 c))
-lasts c e f = e ∙ ap lifetime_of (f ∙ ap (client (table (s4 c))) (sym (who_at c)))
-
--- ---- the returns
+lasts : (table : List ℕ) (request : PushRequest) {w n : ℕ} {r : List ℕ} → place_of table request.client ≡ w → n ≡ lifetime_of r → r ≡ client table w
+    → n ≡ lifetime table request
+lasts table request p e f = e ∙ ap lifetime_of (f ∙ ap (client table) (sym p))
 
 pub returns-in_default : goal.returns-in_default
 unfolding push_checks
 returns-in_default c =
-    let b = c in
-    refusal (b) 0 refl (ap not (sound_told _ _ (sym c.check.ensures ∙ c.in_default.is))) c.refused.ensures
+    let l = c.args.ledger.now in
+    let time = c.args.time in
+    let table = c.args.table.now in
+    let request : PushRequest = record { client = c.args.client.now; key = c.args.key.now; scope = c.args.scope; challenge = c.args.challenge.now; redirect = c.args.redirect.now; fresh = c.args.fresh.now } in
+    refusal l time table request 0 refl (ap not (sound_told _ _ (sym c.check.ensures ∙ c.in_default.is))) c.refused.ensures
 
 pub returns-in_default-check : goal.returns-in_default-check
 unfolding push_checks
 returns-in_default-check c =
-    let b = c in
-    refusal (s1 b) 1 (t1 b) (time_told _ _ _ (sym c.check-2.ensures ∙ c.in_default-check.is)) c.refused-in_default-check.ensures
+    let l = c.args.ledger.now in
+    let time = c.args.time in
+    let table = c.args.table.now in
+    let request : PushRequest = record { client = c.args.client.now; key = c.args.key.now; scope = c.args.scope; challenge = c.args.challenge.now; redirect = c.args.redirect.now; fresh = c.args.fresh.now } in
+    let t1 : Come 1 (checks l time table request) = passes 0 (checks l time table request) refl (ap not (sound_told _ _ (sym c.check.ensures ∙ c.in-Sound.is))) in
+    refusal l time table request 1 t1 (time_told _ _ _ (sym c.check-2.ensures ∙ c.in_default-check.is)) c.refused-in_default-check.ensures
 
 pub returns-in_default-check-2 : goal.returns-in_default-check-2
 unfolding push_checks
 returns-in_default-check-2 c =
-    let b = c in
-    refusal (s2 b) 2 (t2 b) (ap not (table_told _ _ (sym c.check-3.ensures ∙ c.in_default-check-2.is))) c.refused-in_default-check-2.ensures
+    let l = c.args.ledger.now in
+    let time = c.args.time in
+    let table = c.args.table.now in
+    let request : PushRequest = record { client = c.args.client.now; key = c.args.key.now; scope = c.args.scope; challenge = c.args.challenge.now; redirect = c.args.redirect.now; fresh = c.args.fresh.now } in
+    let t1 : Come 1 (checks l time table request) = passes 0 (checks l time table request) refl (ap not (sound_told _ _ (sym c.check.ensures ∙ c.in-Sound.is))) in
+    let in_time : untimely l time ≡ false = time_told _ _ _ (sym c.check-2.ensures ∙ c.in-Timely.is) in
+    let t2 : Come 2 (checks l time table request) = passes 1 (checks l time table request) t1 in_time in
+    refusal l time table request 2 t2 (ap not (table_told _ _ (sym c.check-3.ensures ∙ c.in_default-check-2.is))) c.refused-in_default-check-2.ensures
 
 pub returns-in_default-find : goal.returns-in_default-find
 unfolding push_checks
 returns-in_default-find c =
-    let b = c in
-    refusal (s3 b) 3 (t3 b) (ap not (known_told _ _ _ _ (sym c.find.ensures ∙ c.in_default-find.is))) c.refused-in_default-find.ensures
+    let l = c.args.ledger.now in
+    let time = c.args.time in
+    let table = c.args.table.now in
+    let request : PushRequest = record { client = c.args.client.now; key = c.args.key.now; scope = c.args.scope; challenge = c.args.challenge.now; redirect = c.args.redirect.now; fresh = c.args.fresh.now } in
+    let t1 : Come 1 (checks l time table request) = passes 0 (checks l time table request) refl (ap not (sound_told _ _ (sym c.check.ensures ∙ c.in-Sound.is))) in
+    let in_time : untimely l time ≡ false = time_told _ _ _ (sym c.check-2.ensures ∙ c.in-Timely.is) in
+    let t2 : Come 2 (checks l time table request) = passes 1 (checks l time table request) t1 in_time in
+    let t3 : Come 3 (checks l time table request) = passes 2 (checks l time table request) t2 (ap not (table_told _ _ (sym c.check-3.ensures ∙ c.in-Sound-check.is))) in
+    refusal l time table request 3 t3 (ap not (known_told _ _ _ _ (sym c.find.ensures ∙ c.in_default-find.is))) c.refused-in_default-find.ensures
 
 pub returns-in_default-texts : goal.returns-in_default-texts
 unfolding push_checks
 returns-in_default-texts c =
-    let b = c in
-    refusal (s4 b) 4 (t4 b) (ap not (texts_told _ _ _ (sym c.texts.ensures ∙ c.in_default-texts.is))) c.refused-in_default-texts.ensures
+    let l = c.args.ledger.now in
+    let time = c.args.time in
+    let table = c.args.table.now in
+    let request : PushRequest = record { client = c.args.client.now; key = c.args.key.now; scope = c.args.scope; challenge = c.args.challenge.now; redirect = c.args.redirect.now; fresh = c.args.fresh.now } in
+    let t1 : Come 1 (checks l time table request) = passes 0 (checks l time table request) refl (ap not (sound_told _ _ (sym c.check.ensures ∙ c.in-Sound.is))) in
+    let in_time : untimely l time ≡ false = time_told _ _ _ (sym c.check-2.ensures ∙ c.in-Timely.is) in
+    let t2 : Come 2 (checks l time table request) = passes 1 (checks l time table request) t1 in_time in
+    let t3 : Come 3 (checks l time table request) = passes 2 (checks l time table request) t2 (ap not (table_told _ _ (sym c.check-3.ensures ∙ c.in-Sound-check.is))) in
+    let t4 : Come 4 (checks l time table request) = passes 3 (checks l time table request) t3 (ap not (known_told _ _ _ _ (sym c.find.ensures ∙ c.in-At.is))) in
+    refusal l time table request 4 t4 (ap not (texts_told _ _ _ (sym c.texts.ensures ∙ c.in_default-texts.is))) c.refused-in_default-texts.ensures
 
 pub returns-in_default-granted : goal.returns-in_default-granted
 unfolding push_checks
 returns-in_default-granted c =
-    let b = c in
-    refusal (s5 b) 5 (t5 b) (ap not (scope_told _ _ _ (decided c c.granted.ensures c.in_default-granted.is))) c.refused-in_default-granted.ensures
+    let l = c.args.ledger.now in
+    let time = c.args.time in
+    let table = c.args.table.now in
+    let request : PushRequest = record { client = c.args.client.now; key = c.args.key.now; scope = c.args.scope; challenge = c.args.challenge.now; redirect = c.args.redirect.now; fresh = c.args.fresh.now } in
+    let who_at : place_of table c.args.client.now ≡ c.in-At.who = known_place _ _ _ _ (sym c.find.ensures ∙ c.in-At.is) in
+    let t1 : Come 1 (checks l time table request) = passes 0 (checks l time table request) refl (ap not (sound_told _ _ (sym c.check.ensures ∙ c.in-Sound.is))) in
+    let in_time : untimely l time ≡ false = time_told _ _ _ (sym c.check-2.ensures ∙ c.in-Timely.is) in
+    let t2 : Come 2 (checks l time table request) = passes 1 (checks l time table request) t1 in_time in
+    let t3 : Come 3 (checks l time table request) = passes 2 (checks l time table request) t2 (ap not (table_told _ _ (sym c.check-3.ensures ∙ c.in-Sound-check.is))) in
+    let t4 : Come 4 (checks l time table request) = passes 3 (checks l time table request) t3 (ap not (known_told _ _ _ _ (sym c.find.ensures ∙ c.in-At.is))) in
+    let t5 : Come 5 (checks l time table request) = passes 4 (checks l time table request) t4 (ap not (texts_told _ _ _ (sym c.texts.ensures ∙ c.in-Passed.is))) in
+    refusal l time table request 5 t5 (ap not (scope_told _ _ _ (decided table request who_at c.permitted.ensures c.granted.ensures c.in_default-granted.is))) c.refused-in_default-granted.ensures
 
 pub returns-in_default-check-3 : goal.returns-in_default-check-3
 unfolding push_checks
 returns-in_default-check-3 c =
-    let b = c in
-    refusal (s6 b) 6 (t6 b) (value_told _ _ _ (sym c.check-4.ensures ∙ c.in_default-check-3.is)) c.refused-in_default-check-3.ensures
+    let l = c.args.ledger.now in
+    let time = c.args.time in
+    let table = c.args.table.now in
+    let request : PushRequest = record { client = c.args.client.now; key = c.args.key.now; scope = c.args.scope; challenge = c.args.challenge.now; redirect = c.args.redirect.now; fresh = c.args.fresh.now } in
+    let who_at : place_of table c.args.client.now ≡ c.in-At.who = known_place _ _ _ _ (sym c.find.ensures ∙ c.in-At.is) in
+    let t1 : Come 1 (checks l time table request) = passes 0 (checks l time table request) refl (ap not (sound_told _ _ (sym c.check.ensures ∙ c.in-Sound.is))) in
+    let in_time : untimely l time ≡ false = time_told _ _ _ (sym c.check-2.ensures ∙ c.in-Timely.is) in
+    let t2 : Come 2 (checks l time table request) = passes 1 (checks l time table request) t1 in_time in
+    let t3 : Come 3 (checks l time table request) = passes 2 (checks l time table request) t2 (ap not (table_told _ _ (sym c.check-3.ensures ∙ c.in-Sound-check.is))) in
+    let t4 : Come 4 (checks l time table request) = passes 3 (checks l time table request) t3 (ap not (known_told _ _ _ _ (sym c.find.ensures ∙ c.in-At.is))) in
+    let t5 : Come 5 (checks l time table request) = passes 4 (checks l time table request) t4 (ap not (texts_told _ _ _ (sym c.texts.ensures ∙ c.in-Passed.is))) in
+    let t6 : Come 6 (checks l time table request) = passes 5 (checks l time table request) t5 (ap not (scope_told _ _ _ (decided table request who_at c.permitted.ensures c.granted.ensures c.in-Granted.is))) in
+    refusal l time table request 6 t6 (value_told _ _ _ (sym c.check-4.ensures ∙ c.in_default-check-3.is)) c.refused-in_default-check-3.ensures
 
 pub returns-in_default-free : goal.returns-in_default-free
 unfolding push_checks
 returns-in_default-free c =
-    let b = c in
-    refusal (s7 b) 7 (t7 b) (ap not (found_told _ _ _ (sym c.free.ensures ∙ c.in_default-free.is))) c.refused-in_default-free.ensures
+    let l = c.args.ledger.now in
+    let time = c.args.time in
+    let table = c.args.table.now in
+    let request : PushRequest = record { client = c.args.client.now; key = c.args.key.now; scope = c.args.scope; challenge = c.args.challenge.now; redirect = c.args.redirect.now; fresh = c.args.fresh.now } in
+    let who_at : place_of table c.args.client.now ≡ c.in-At.who = known_place _ _ _ _ (sym c.find.ensures ∙ c.in-At.is) in
+    let t1 : Come 1 (checks l time table request) = passes 0 (checks l time table request) refl (ap not (sound_told _ _ (sym c.check.ensures ∙ c.in-Sound.is))) in
+    let in_time : untimely l time ≡ false = time_told _ _ _ (sym c.check-2.ensures ∙ c.in-Timely.is) in
+    let t2 : Come 2 (checks l time table request) = passes 1 (checks l time table request) t1 in_time in
+    let t3 : Come 3 (checks l time table request) = passes 2 (checks l time table request) t2 (ap not (table_told _ _ (sym c.check-3.ensures ∙ c.in-Sound-check.is))) in
+    let t4 : Come 4 (checks l time table request) = passes 3 (checks l time table request) t3 (ap not (known_told _ _ _ _ (sym c.find.ensures ∙ c.in-At.is))) in
+    let t5 : Come 5 (checks l time table request) = passes 4 (checks l time table request) t4 (ap not (texts_told _ _ _ (sym c.texts.ensures ∙ c.in-Passed.is))) in
+    let t6 : Come 6 (checks l time table request) = passes 5 (checks l time table request) t5 (ap not (scope_told _ _ _ (decided table request who_at c.permitted.ensures c.granted.ensures c.in-Granted.is))) in
+    let t7 : Come 7 (checks l time table request) = passes 6 (checks l time table request) t6 (value_told _ _ _ (sym c.check-4.ensures ∙ c.in-New.is)) in
+    refusal l time table request 7 t7 (ap not (found_told _ _ _ (sym c.free.ensures ∙ c.in_default-free.is))) c.refused-in_default-free.ensures
 
 pub returns-in_default-number : goal.returns-in_default-number
 unfolding push_checks
 returns-in_default-number c =
-    let b = c in
-    refusal (s8 b) 8 (t8 b) (told _ _ (ap (λ (n : ℕ). fails_when (eqb n last_number)) (sym c.next_number-number.ensures) ∙ sym c.number.ensures ∙ c.in_default-number.is)) c.refused-in_default-number.ensures
+    let l = c.args.ledger.now in
+    let time = c.args.time in
+    let table = c.args.table.now in
+    let request : PushRequest = record { client = c.args.client.now; key = c.args.key.now; scope = c.args.scope; challenge = c.args.challenge.now; redirect = c.args.redirect.now; fresh = c.args.fresh.now } in
+    let who_at : place_of table c.args.client.now ≡ c.in-At.who = known_place _ _ _ _ (sym c.find.ensures ∙ c.in-At.is) in
+    let t1 : Come 1 (checks l time table request) = passes 0 (checks l time table request) refl (ap not (sound_told _ _ (sym c.check.ensures ∙ c.in-Sound.is))) in
+    let in_time : untimely l time ≡ false = time_told _ _ _ (sym c.check-2.ensures ∙ c.in-Timely.is) in
+    let t2 : Come 2 (checks l time table request) = passes 1 (checks l time table request) t1 in_time in
+    let t3 : Come 3 (checks l time table request) = passes 2 (checks l time table request) t2 (ap not (table_told _ _ (sym c.check-3.ensures ∙ c.in-Sound-check.is))) in
+    let t4 : Come 4 (checks l time table request) = passes 3 (checks l time table request) t3 (ap not (known_told _ _ _ _ (sym c.find.ensures ∙ c.in-At.is))) in
+    let t5 : Come 5 (checks l time table request) = passes 4 (checks l time table request) t4 (ap not (texts_told _ _ _ (sym c.texts.ensures ∙ c.in-Passed.is))) in
+    let t6 : Come 6 (checks l time table request) = passes 5 (checks l time table request) t5 (ap not (scope_told _ _ _ (decided table request who_at c.permitted.ensures c.granted.ensures c.in-Granted.is))) in
+    let t7 : Come 7 (checks l time table request) = passes 6 (checks l time table request) t6 (value_told _ _ _ (sym c.check-4.ensures ∙ c.in-New.is)) in
+    let t8 : Come 8 (checks l time table request) = passes 7 (checks l time table request) t7 (ap not (found_told _ _ _ (sym c.free.ensures ∙ c.in-At-free.is))) in
+    refusal l time table request 8 t8 (told _ _ (ap (λ (n : ℕ). fails_when (eqb n last_number)) (sym c.next_number-number.ensures) ∙ sym c.number.ensures ∙ c.in_default-number.is)) c.refused-in_default-number.ensures
 
 pub overflow_add-time : goal.overflow_add-time
 overflow_add-time c =
-    let h = timely_lt _ _ (in_time (time_place c)) in
-    let m = lives (who_place c) in
+    let l = c.args.ledger.now in
+    let time = c.args.time in
+    let table = c.args.table.now in
+    let in_time : untimely l time ≡ false = time_told _ _ _ (sym c.check-2.ensures ∙ c.in-Timely.is) in
+    let lives : lifetime_of (client table c.in-At.who) ≤ lifetime_most = known_most _ _ _ _ (table_told _ _ (sym c.check-3.ensures ∙ c.in-Sound-check.is)) (sym c.find.ensures ∙ c.in-At.is) in
+    let h = timely_lt _ _ in_time in
+    let m = lives in
     let e = c.lifetime_of.ensures ∙ ap lifetime_of c.client_at.ensures in
     omega arith
 
 pub push_at-requires : goal.push_at-requires
 push_at-requires c =
-    let b = c in
-    (inside b, below_last _ _ (number_left b) b.next_number-number.ensures (omega arith))
+    let l = c.args.ledger.now in
+    let inside : c.in-At-free.k < slots l = found_inside is_free _ _ (sym c.free.ensures ∙ c.in-At-free.is) in
+    let number_left : eqb (next_number l) last_number ≡ false = told _ _ (ap (λ (n : ℕ). fails_when (eqb n last_number)) (sym c.next_number-number.ensures) ∙ sym c.number.ensures ∙ c.in-Passed-number.is) in
+    (inside, below_last _ _ number_left c.next_number-number.ensures (omega arith))
 
 pub returns : goal.returns
+unfolding push_checks
 returns c =
-    let b = c in
-    let k = b in
-    let s = s9 b in
+    let l = c.args.ledger.now in
+    let time = c.args.time in
+    let table = c.args.table.now in
+    let request : PushRequest = record { client = c.args.client.now; key = c.args.key.now; scope = c.args.scope; challenge = c.args.challenge.now; redirect = c.args.redirect.now; fresh = c.args.fresh.now } in
+    let who_at : place_of table c.args.client.now ≡ c.in-At.who = known_place _ _ _ _ (sym c.find.ensures ∙ c.in-At.is) in
+    let bits_are : granted_bits c.args.scope (permitted (client_record table request)) ≡ c.in-Granted.bits = scope_bits _ _ _ (decided table request who_at c.permitted.ensures c.granted.ensures c.in-Granted.is) in
+    let free_at : free_place l ≡ c.in-At-free.k = found_place _ _ _ (sym c.free.ensures ∙ c.in-At-free.is) in
+    let t1 : Come 1 (checks l time table request) = passes 0 (checks l time table request) refl (ap not (sound_told _ _ (sym c.check.ensures ∙ c.in-Sound.is))) in
+    let in_time : untimely l time ≡ false = time_told _ _ _ (sym c.check-2.ensures ∙ c.in-Timely.is) in
+    let t2 : Come 2 (checks l time table request) = passes 1 (checks l time table request) t1 in_time in
+    let t3 : Come 3 (checks l time table request) = passes 2 (checks l time table request) t2 (ap not (table_told _ _ (sym c.check-3.ensures ∙ c.in-Sound-check.is))) in
+    let t4 : Come 4 (checks l time table request) = passes 3 (checks l time table request) t3 (ap not (known_told _ _ _ _ (sym c.find.ensures ∙ c.in-At.is))) in
+    let t5 : Come 5 (checks l time table request) = passes 4 (checks l time table request) t4 (ap not (texts_told _ _ _ (sym c.texts.ensures ∙ c.in-Passed.is))) in
+    let t6 : Come 6 (checks l time table request) = passes 5 (checks l time table request) t5 (ap not (scope_told _ _ _ (decided table request who_at c.permitted.ensures c.granted.ensures c.in-Granted.is))) in
+    let t7 : Come 7 (checks l time table request) = passes 6 (checks l time table request) t6 (value_told _ _ _ (sym c.check-4.ensures ∙ c.in-New.is)) in
+    let t8 : Come 8 (checks l time table request) = passes 7 (checks l time table request) t7 (ap not (found_told _ _ _ (sym c.free.ensures ∙ c.in-At-free.is))) in
+    let number_left : eqb (next_number l) last_number ≡ false = told _ _ (ap (λ (n : ℕ). fails_when (eqb n last_number)) (sym c.next_number-number.ensures) ∙ sym c.number.ensures ∙ c.in-Passed-number.is) in
+    let t9 : Come 9 (checks l time table request) = passes 8 (checks l time table request) t8 number_left in
     c.push_at.ensures
-    ∙ written_at (l s) s.args.time (table s) (request s) _ _ _ _ (free_at k) (bits_are k)
-    b.next_number-number.ensures (ap (λ (n : ℕ). s.args.time + n) (lasts (who_place b) c.lifetime_of.ensures c.client_at.ensures))
-    ∙ sym (acceptance s (t9 b))
+    ∙ written_at l time table request _ _ _ _ free_at bits_are
+    c.next_number-number.ensures (ap (λ (n : ℕ). time + n) (lasts table request who_at c.lifetime_of.ensures c.client_at.ensures))
+    ∙ sym (acceptance l time table request t9)

@@ -12,64 +12,47 @@ use Rattle.ledger.specs.Fields.{with_clock}
 use Rattle.ledger.specs.Sweep.{freed, swept}
 use Rattle.sweep.proofs.sweep.Goals as goal
 
-abbrev l : tie.Start → List ℕ
-l s = s.args.ledger.now
+abbrev checks : (l : List ℕ) (time : ℕ) → List Check
+checks l time = sweep_checks l time
 
-abbrev checks : tie.Start → List Check
-checks s = sweep_checks (l s) s.args.time
+abbrev done : (l : List ℕ) (time : ℕ) → Outcome Swept
+done l time = left (swept_of (freed time l)) (with_clock time (swept time l))
 
-abbrev done : tie.Start → Outcome Swept
-done s = left (swept_of (freed s.args.time (l s))) (with_clock s.args.time (swept s.args.time (l s)))
-
-abbrev outcome : tie.Start → Outcome Swept
-outcome s = sweep (l s) s.args.time
+abbrev outcome : (l : List ℕ) (time : ℕ) → Outcome Swept
+outcome l time = sweep l time
 
 -- the check whose turn has come fails: its row is answered
-refusal : (s : tie.Start) (n : ℕ) {a : Swept} → Come n (checks s) → (nth n (checks s)).holds ≡ true → a ≡ unswept (nth n (checks s)).why → left a (l s) ≡ outcome s
+refusal : (l : List ℕ) (time : ℕ) (n : ℕ) {a : Swept} → Come n (checks l time) → (nth n (checks l time)).holds ≡ true → a ≡ unswept (nth n (checks l time)).why → left a l ≡ outcome l time
 unfolding sweep
-refusal s n t h e = refuses e (ap (λ (v : Verdict). concludes v (sweep_leaves (l s)) (done s)) (stops n (checks s) t h))
+refusal l time n t h e = refuses e (ap (λ (v : Verdict). concludes v (sweep_leaves l) (done l time)) (stops n (checks l time) t h))
 
 -- none is left: the call is done
-acceptance : (s : tie.Start) → Come 2 (checks s) → outcome s ≡ done s
+acceptance : (l : List ℕ) (time : ℕ) → Come 2 (checks l time) → outcome l time ≡ done l time
 unfolding sweep sweep_checks
-acceptance s t = ap (λ (v : Verdict). concludes v (sweep_leaves (l s)) (done s)) (all_pass 2 (checks s) t refl)
-
--- ---- where the check of a number has passed: the start, and that the turn has come to the next one
-
-abbrev s1 : tie.After-enum-told → tie.Start
-s1 c = c
-
-t1 : (c : tie.After-enum-told) → Come 1 (checks (s1 c))
-unfolding sweep_checks
-t1 c = passes 0 (checks (s1 c)) refl (ap not (sound_told _ _ (sym c.check.ensures ∙ c.in-Sound.is)))
-
-abbrev s2 : tie.After-enum-told3 → tie.Start
-s2 c = s1 c
-
-in_time : (c : tie.After-enum-told3) → untimely (l (s2 c)) (s2 c).args.time ≡ false
-in_time c = time_told _ _ _ (sym c.check-2.ensures ∙ c.in-Timely.is)
-
-t2 : (c : tie.After-enum-told3) → Come 2 (checks (s2 c))
-unfolding sweep_checks
-t2 c = passes 1 (checks (s2 c)) (t1 c) (in_time c)
-
--- ---- the returns
+acceptance l time t = ap (λ (v : Verdict). concludes v (sweep_leaves l) (done l time)) (all_pass 2 (checks l time) t refl)
 
 pub returns-in_default : goal.returns-in_default
 unfolding sweep_checks
 returns-in_default c =
-    let b = c in
-    refusal (b) 0 refl (ap not (sound_told _ _ (sym c.check.ensures ∙ c.in_default.is))) c.refused.ensures
+    let l = c.args.ledger.now in
+    let time = c.args.time in
+    refusal l time 0 refl (ap not (sound_told _ _ (sym c.check.ensures ∙ c.in_default.is))) c.refused.ensures
 
 pub returns-in_default-check : goal.returns-in_default-check
 unfolding sweep_checks
 returns-in_default-check c =
-    let b = c in
-    refusal (s1 b) 1 (t1 b) (time_told _ _ _ (sym c.check-2.ensures ∙ c.in_default-check.is)) c.refused-in_default-check.ensures
+    let l = c.args.ledger.now in
+    let time = c.args.time in
+    let t1 : Come 1 (checks l time) = passes 0 (checks l time) refl (ap not (sound_told _ _ (sym c.check.ensures ∙ c.in-Sound.is))) in
+    refusal l time 1 t1 (time_told _ _ _ (sym c.check-2.ensures ∙ c.in_default-check.is)) c.refused-in_default-check.ensures
 
 pub returns : goal.returns
+unfolding sweep_checks
 returns c =
-    let w = c in
-    let b = w in
-    sweep_written _ _ _ _ _ _ w.sweep-freed.ensures.0 w.sweep-freed.ensures.1 c.set_clock.ensures c.of.ensures
-    ∙ sym (acceptance (s2 b) (t2 b))
+    let l = c.args.ledger.now in
+    let time = c.args.time in
+    let t1 : Come 1 (checks l time) = passes 0 (checks l time) refl (ap not (sound_told _ _ (sym c.check.ensures ∙ c.in-Sound.is))) in
+    let in_time : untimely l time ≡ false = time_told _ _ _ (sym c.check-2.ensures ∙ c.in-Timely.is) in
+    let t2 : Come 2 (checks l time) = passes 1 (checks l time) t1 in_time in
+    sweep_written _ _ _ _ _ _ c.sweep-freed.ensures.0 c.sweep-freed.ensures.1 c.set_clock.ensures c.of.ensures
+    ∙ sym (acceptance l time t2)
