@@ -14,5 +14,5 @@ returns c =
     let q = c in (
       rw c.with.ensures.1.1 q.call-count.ensures.0,
       on_front a.ledger.now a.table.now a.n a.m (omega arith) (omega arith) _ c.with.ensures.0 c.with.ensures.1.0
-          (ap (λ (k : ℕ). take k q.call-count.new.1.1.1.1.0) c.with.ensures.1.1) q.call-count.ensures.1 c.ledger-1.given.1,
+          (ap (λ (k : ℕ). take k q.call-count.new.out) c.with.ensures.1.1) q.call-count.ensures.1 c.ledger-1.given.1,
     )

@@ -15,7 +15,7 @@ returns-then-line-gt-MOST c =
     let q = c.write_number-count in (
       search rules,
       at_none _ a.ledger.now a.table.now a.n a.m (omega arith) (omega arith) (line_long a.line.now (desk_in a.n a.m a.ledger.now a.table.now) (omega arith))
-          c.with.ensures.0 c.with.ensures.1.0 (ap (λ (k : ℕ). take k q.new.0) c.with.ensures.1.1) q.ensures.1,
+          c.with.ensures.0 c.with.ensures.1.0 (ap (λ (k : ℕ). take k q.new.out) c.with.ensures.1.1) q.ensures.1,
     )
 
 pub returns-then-not-decode : goal.returns-then-not-decode
@@ -26,7 +26,7 @@ returns-then-not-decode c =
       search rules,
       at_none _ a.ledger.now a.table.now a.n a.m (omega arith) (omega arith)
           (line_other a.line.now (desk_in a.n a.m a.ledger.now a.table.now) (sym d.ensures.0 ∙ c.if-not-decode.true))
-          c.with-then-not-decode.ensures.0 c.with-then-not-decode.ensures.1.0 (ap (λ (k : ℕ). take k q.new.0) c.with-then-not-decode.ensures.1.1) q.ensures.1,
+          c.with-then-not-decode.ensures.0 c.with-then-not-decode.ensures.1.0 (ap (λ (k : ℕ). take k q.new.out) c.with-then-not-decode.ensures.1.1) q.ensures.1,
     )
 
 pub slice_bounds-serve-end : goal.slice_bounds-serve-end

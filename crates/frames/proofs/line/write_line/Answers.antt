@@ -13,7 +13,7 @@ bounds-out-end c =
 pub shape_of-out : goal.shape_of-out
 shape_of-out c =
     let w = c.write-end in
-    length-set w.new.0 w.result line_end ∙ ap length w.ensures.1 ∙ length_put c.args.out.now 0 _
+    length-set w.new.out w.result line_end ∙ ap length w.ensures.1 ∙ length_put c.args.out.now 0 _
 
 pub returns : goal.returns
 returns c =
