@@ -1,42 +1,35 @@
 use Rattle.std.proofs.Common.{arith, sym, true, ◌∙◌, ◌≡◌}
 use Rattle.lines.proofs.Going.{unfitting, unbegun, roomless, finished}
-use Rattle.lines.specs.Turn.{Held, held, fits}
+use Rattle.lines.specs.Turn.{held, fits}
 use Rattle.lines.proofs.feed.finish.Goals as goal
-
-abbrev kept : tie.Start → Held
-kept c = held c.args.s c.args.line.now c.args.ledger.now c.args.table.now
-
-fitting : (c : tie.Else1) → fits (kept c) ≡ true
-fitting c = sym c.fits2.ensures ∙ c.if-not-fits.false
 
 pub returns-then-not-fits : goal.returns-then-not-fits
 returns-then-not-fits c =
-    let p = c in
-    let b = p in
+    let kept = held c.args.s c.args.line.now c.args.ledger.now c.args.table.now in
     let n = c.nothing.ensures in
-    unfitting (kept b) b.args.out.now n.0 n.1.0 n.1.1
-    (sym p.fits2.ensures ∙ c.if-not-fits.true)
+    let u = unfitting kept c.args.out.now n.0 n.1.0 n.1.1 (sym c.fits.ensures ∙ c.if-not-fits.true) in
+    record { out_after = u.0; filled_in_bounds = u.1 }
 
 pub returns-then-s-eq0 : goal.returns-then-s-eq0
 returns-then-s-eq0 c =
-    let b = c in
+    let kept = held c.args.s c.args.line.now c.args.ledger.now c.args.table.now in
     let n = c.nothing-then-s-eq0.ensures in
-    unbegun (kept b) b.args.out.now n.0 n.1.0 n.1.1 c.if-s-eq0.true
+    let u = unbegun kept c.args.out.now n.0 n.1.0 n.1.1 c.if-s-eq0.true in
+    record { out_after = u.0; filled_in_bounds = u.1 }
 
 pub returns-then-out-lt-LINE : goal.returns-then-out-lt-LINE
 returns-then-out-lt-LINE c =
-    let b = c in
+    let kept = held c.args.s c.args.line.now c.args.ledger.now c.args.table.now in
     let n = c.nothing-then-out-lt-LINE.ensures in
-    roomless (kept b) b.args.out.now n.0 n.1.0 n.1.1 c.if-out-lt-LINE.true
+    let u = roomless kept c.args.out.now n.0 n.1.0 n.1.1 c.if-out-lt-LINE.true in
+    record { out_after = u.0; filled_in_bounds = u.1 }
 
 pub turn-t-requires : goal.turn-t-requires
 turn-t-requires c =
-    (fitting c, omega arith)
+    (sym c.fits.ensures ∙ c.if-not-fits.false, omega arith)
 
 pub returns : goal.returns
 returns c =
-    let t = c in
-    let q = t in
-    let e = q in
-    let b = e in
-    finished (kept b) b.args.out.now (fitting e) q.if-s-eq0.false q.if-out-lt-LINE.false t.turn-t.ensures
+    let kept = held c.args.s c.args.line.now c.args.ledger.now c.args.table.now in
+    let u = finished kept c.args.out.now (sym c.fits.ensures ∙ c.if-not-fits.false) c.if-s-eq0.false c.if-out-lt-LINE.false c.turn-t.ensures in
+    record { out_after = u.0; filled_in_bounds = u.1 }
