@@ -96,9 +96,9 @@ pub computed : Computed
 unfolding tabulate num_from num digits laid put blank zeros same visible url_safe unreserved redirect_formed challenge_formed verifier_formed redirect_prefix client entries has_id has_key place_of is_known lifetime_of length_right id_given ids_given key_given keys_given same_id ids_distinct lifetime_fits lifetimes_fit rest_zero rests_zero table_sound untimely taken is_free is_with is_reference is_code is_token rec slots records sized stated numbers_sound bytes_sound used_sound no_token some_token record_sound same_grant holds meets own_apart head_sound sound pushed consented redeemed free first scope_fits empty_ledger push_checks push_record push_at do_push decide_checks consent_record consent_at decline_at decide_at do_decide token_checks token_record token_at do_token resource_checks look do_resource step K added compress hash_value joined sha256 pad blocks T1 round rounds next words schedule Σ0 Σ1 σ0 σ1 letter characters base64url matches swept_record swept_to swept due freed_of freed sweep_checks do_sweep
 computed =
     record {
-      accepted = λ (k : Kind). elim k [ pushes ↦ refl | decides ↦ refl | redeems ↦ refl | reads ↦ refl | sweeps ↦ refl ];
-      changes = λ (k : Kind). elim k [ pushes ↦ refl | decides ↦ refl | redeems ↦ refl | reads ↦ refl | sweeps ↦ refl ];
-      early = λ (k : Kind). elim k [ pushes ↦ refl | decides ↦ refl | redeems ↦ refl | reads ↦ refl | sweeps ↦ refl ];
+      accepted = λ (k : Kind). elim k as (λ k. number_in (step (ledger_of k) (call_at 1030 k)).answer ≡ done) [ pushes ↦ refl | decides ↦ refl | redeems ↦ refl | reads ↦ refl | sweeps ↦ refl ];
+      changes = λ (k : Kind). elim k as (λ k. same (step (ledger_of k) (call_at 1030 k)).after (ledger_of k) ≡ false) [ pushes ↦ refl | decides ↦ refl | redeems ↦ refl | reads ↦ refl | sweeps ↦ refl ];
+      early = λ (k : Kind). elim k as (λ k. number_in (step (last (started 2) swept_first) (call_at 4 k)).answer ≡ 2) [ pushes ↦ refl | decides ↦ refl | redeems ↦ refl | reads ↦ refl | sweeps ↦ refl ];
       hands_out = refl;
       frees_none = refl;
       frees_one = refl;
