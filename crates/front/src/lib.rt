@@ -1,6 +1,6 @@
-// Front: the six calls and the two that only read, for a web front, exported to C under the names that include/perdigolh.h declares. It rests on the calls and on desk: each function hands on
+// Front: the six calls and the two that only read, for a web front, by the names that C calls them. It rests on the calls and on desk: each function hands on
 // what it is lent and answers the desk's answer in a struct that C can read. Its contract is the desk's equation, read through that struct.
-// Two functions beside the calls tell a caller which release and which interface it has.
+// Two functions beside the calls tell a caller which release and which interface it has. The crate front_c exports them.
 #![tactic(auto)]
 
 ghost use Rattle.std.specs.Prelude.{◌≡◌};
@@ -25,15 +25,13 @@ pub mod answer;
 pub mod choice;
 pub mod version;
 
-#[unsafe(no_mangle)]
-pub extern "C" fn perdigolh_start(ledger: &mut [u8]) -> u8
+pub fn perdigolh_start(ledger: &mut [u8]) -> u8
     ensures { left result ledger.new ≡ start ledger.old }
 {
     start::start(ledger)
 }
 
-#[unsafe(no_mangle)]
-pub extern "C" fn perdigolh_push(
+pub fn perdigolh_push(
     ledger: &mut [u8],
     time: u64,
     table: &[u8],
@@ -51,8 +49,7 @@ pub extern "C" fn perdigolh_push(
     ))
 }
 
-#[unsafe(no_mangle)]
-pub extern "C" fn perdigolh_decide(
+pub fn perdigolh_decide(
     ledger: &mut [u8],
     time: u64,
     reference: &[u8; 32],
@@ -70,8 +67,7 @@ pub extern "C" fn perdigolh_decide(
     ))
 }
 
-#[unsafe(no_mangle)]
-pub extern "C" fn perdigolh_token(
+pub fn perdigolh_token(
     ledger: &mut [u8],
     time: u64,
     table: &[u8],
@@ -89,8 +85,7 @@ pub extern "C" fn perdigolh_token(
     ))
 }
 
-#[unsafe(no_mangle)]
-pub extern "C" fn perdigolh_resource(
+pub fn perdigolh_resource(
     ledger: &mut [u8],
     time: u64,
     token: &[u8; 32],
@@ -103,16 +98,14 @@ pub extern "C" fn perdigolh_resource(
     Answer::of(resource::resource(ledger, time, token, presented, scope, holder))
 }
 
-#[unsafe(no_mangle)]
-pub extern "C" fn perdigolh_sweep(ledger: &mut [u8], time: u64) -> Swept
+pub fn perdigolh_sweep(ledger: &mut [u8], time: u64) -> Swept
     ensures { left (as_swept result) ledger.new ≡ sweep ledger.old time }
 {
     Swept::of(sweep::sweep(ledger, time))
 }
 
 // The request that waits, in the struct of decide's answer. The ledger is lent to be read only.
-#[unsafe(no_mangle)]
-pub extern "C" fn perdigolh_pending(
+pub fn perdigolh_pending(
     ledger: &[u8],
     time: u64,
     reference: &[u8; 32],
@@ -124,8 +117,7 @@ pub extern "C" fn perdigolh_pending(
     Decided::of(pending::pending(ledger, time, reference, client, output))
 }
 
-#[unsafe(no_mangle)]
-pub extern "C" fn perdigolh_introspect(
+pub fn perdigolh_introspect(
     ledger: &[u8],
     time: u64,
     token: &[u8; 32],
@@ -136,16 +128,14 @@ pub extern "C" fn perdigolh_introspect(
     Introspected::of(introspect::introspect(ledger, time, token, output))
 }
 
-#[unsafe(no_mangle)]
-pub extern "C" fn perdigolh_version() -> u32
+pub fn perdigolh_version() -> u32
     ensures { result ≡ version_number }
 {
     Version::NUMBER
 }
 
 // Its name has the interface's number: a caller compiled with another header asks for another name, and is not linked.
-#[unsafe(no_mangle)]
-pub extern "C" fn perdigolh_interface_1() -> u32
+pub fn perdigolh_interface_1() -> u32
     ensures { result ≡ interface_number }
 {
     Interface::NUMBER
