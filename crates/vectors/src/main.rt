@@ -6,68 +6,71 @@ mod digests;
 mod messages;
 
 use digests::{digest_hex, digest_text};
-use libc::STDOUT_FILENO;
 use messages::{million, pattern};
+use std::io;
 
 // The texts of a message's digest, a column each.
-fn columns(m: &[u8]) {
+fn columns(rt: &impl Print, m: &[u8]) -> io::Result<()> {
     let h = digest_hex(m);
     let t = digest_text(m);
-    io::write_all(STDOUT_FILENO, b" ");
-    io::write_all(STDOUT_FILENO, &h);
-    io::write_all(STDOUT_FILENO, b" ");
-    io::write_all(STDOUT_FILENO, &t);
-    io::write_all(STDOUT_FILENO, b"\n");
+    rt.write_all(b" ")?;
+    rt.write_all(&h)?;
+    rt.write_all(b" ")?;
+    rt.write_all(&t)?;
+    rt.write_all(b"\n")
 }
 
-fn show(label: &[u8], m: &[u8]) {
-    io::write_all(STDOUT_FILENO, label);
-    columns(m);
+fn show(rt: &impl Print, label: &[u8], m: &[u8]) -> io::Result<()> {
+    rt.write_all(label)?;
+    columns(rt, m)
 }
 
 // The examples of FIPS 180-4.
-fn examples() {
-    show(b"fips-empty", b"");
-    show(b"fips-abc", b"abc");
+fn examples(rt: &impl Print) -> io::Result<()> {
+    show(rt, b"fips-empty", b"")?;
+    show(rt, b"fips-abc", b"abc")?;
     show(
+        rt,
         b"fips-448",
         b"abcdbcdecdefdefgefghfghighijhijkijkljklmklmnlmnomnopnopq",
-    );
+    )?;
     show(
+        rt,
         b"fips-896",
         b"abcdefghbcdefghicdefghijdefghijkefghijklfghijklmghijklmnhijklmnoijklmnopjklmnopqklmnopqrlmnopqrsmnopqrstnopqrstu",
-    );
-    show(b"fips-million", &million());
+    )?;
+    show(rt, b"fips-million", &million())
 }
 
 // The verifier of RFC 7636, Appendix B.
-fn verifier() {
+fn verifier(rt: &impl Print) -> io::Result<()> {
     show(
+        rt,
         b"rfc7636-verifier",
         b"dBjftJeZ4CVP-mB92K27uhbUJU1p1r_wW1gFWFOEjXk",
-    );
+    )
 }
 
 // The first n bytes of the pattern.
-fn length(p: [u8; 130], n: usize) {
+fn length(rt: &impl Print, p: [u8; 130], n: usize) -> io::Result<()> {
     if n <= 130 {
-        io::write_all(STDOUT_FILENO, b"length-");
-        io::print_decimal(STDOUT_FILENO, n as u64);
-        columns(&p[..n]);
+        rt.write_all(b"length-")?;
+        rt.print(n)?;
+        columns(rt, &p[..n])?;
     }
+    Ok(())
 }
 
-fn lengths() {
+fn lengths(rt: &impl Print) -> io::Result<()> {
     let p = pattern();
-    let mut n = 0usize;
-    while n <= 130 {
-        length(p, n);
-        n += 1;
+    for n in 0..131usize {
+        length(rt, p, n)?;
     }
+    Ok(())
 }
 
-fn main() {
-    examples();
-    verifier();
-    lengths();
+fn main(rt: HostRuntime) -> io::Result<()> {
+    examples(&rt)?;
+    verifier(&rt)?;
+    lengths(&rt)
 }

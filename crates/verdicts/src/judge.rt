@@ -4,8 +4,8 @@ use super::bytes::lay;
 use super::words::{after, first, number};
 use clients::table::Table;
 use ledger::sound::Soundness;
-use libc::STDOUT_FILENO;
 use octets::part::{clear, cut, put, same};
+use std::io;
 
 // Check 1.
 fn is_ledger(l: &[u8]) -> bool {
@@ -23,12 +23,12 @@ fn is_table(t: &[u8]) -> bool {
     true
 }
 
-fn say(name: &[u8], sound: bool) {
-    io::write_all(STDOUT_FILENO, name);
+fn say(rt: &impl Print, name: &[u8], sound: bool) -> io::Result<()> {
+    rt.write_all(name)?;
     if sound {
-        io::write_all(STDOUT_FILENO, b" sound\n");
+        rt.write_all(b" sound\n")
     } else {
-        io::write_all(STDOUT_FILENO, b" unsound\n");
+        rt.write_all(b" unsound\n")
     }
 }
 
@@ -43,7 +43,7 @@ fn spoil_twice(s: &mut [u8], words: &[u8]) {
 }
 
 // The verdict on the first bytes of space: a length, a name, and what is spoiled.
-fn judge(words: &[u8], space: &[u8], table: bool) {
+fn judge(rt: &impl Print, words: &[u8], space: &[u8], table: bool) -> io::Result<()> {
     let n = number(words);
     let named = after(words);
     let mut s = [0u8; 51488];
@@ -51,21 +51,22 @@ fn judge(words: &[u8], space: &[u8], table: bool) {
     spoil_twice(&mut s, after(named));
     let judged = cut(&s, 0, n);
     if table {
-        say(first(named), is_table(judged));
+        say(rt, first(named), is_table(judged))
     } else {
-        say(first(named), is_ledger(judged));
+        say(rt, first(named), is_ledger(judged))
     }
 }
 
-pub fn turn(line: &[u8], space: &mut [u8]) {
+pub fn turn(rt: &impl Print, line: &[u8], space: &mut [u8]) -> io::Result<()> {
     let kind = first(line);
     if same(kind, b"clear") {
         clear(space);
     } else if same(kind, b"put") {
         spoil(space, after(line));
     } else if same(kind, b"ledger") {
-        judge(after(line), space, false);
+        judge(rt, after(line), space, false)?;
     } else if same(kind, b"table") {
-        judge(after(line), space, true);
+        judge(rt, after(line), space, true)?;
     }
+    Ok(())
 }

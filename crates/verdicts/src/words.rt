@@ -29,10 +29,9 @@ pub fn after(s: &[u8]) -> &[u8] {
 }
 
 fn tenfold(n: u64, digit: u8) -> u64 {
-    std::num::wrapping_add_u64(
-        std::num::wrapping_add_u64(n << 3, n << 1),
-        (digit % 16) as u64,
-    )
+    (n << 3)
+        .wrapping_add(n << 1)
+        .wrapping_add((digit % 16) as u64)
 }
 
 // The first word in decimal.

@@ -6,6 +6,6 @@ use Rattle.vectors.proofs.digests.hex.Goals as goal
 
 pub returns : goal.returns
 returns c =
-    let digest = c.args.t1 in
+    let digest = c.args.digest in
     let n : length (hex digest) ≡ 64 = omega (arith, length_hex digest) in
     put_all (replicate 64 0) (hex digest) n c.write.ensures.1

@@ -1,6 +1,6 @@
 use Rattle.std.proofs.Common.{refl, rules}
 use Rattle.octets.proofs.Tabulate.{filled_none, filled_more, filled_all}
-use Rattle.vectors.specs.Messages.{pattern_at, pattern}
+use Rattle.vectors.specs.Messages.{pattern}
 use Rattle.vectors.proofs.messages.pattern.Goals as goal
 
 pub loop-i-init : goal.loop-i-init
