@@ -69,7 +69,7 @@ def missing(word, after):
 
 
 def command_problem(words):
-    crates = re.findall(r"^(\w+)\s*:", read("crates.txt"), re.M)
+    crates = re.findall(r"^(\w+)[^#:\n]*:", read("crates.txt"), re.M)
     program = words[0]
     if program == "rt":
         if words[1] not in VERBS:

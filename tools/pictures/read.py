@@ -74,7 +74,7 @@ def checks(call):
 
 def crates():
     """The crates and what they name: {crate: [crate]}."""
-    listed = re.findall(r"^(\w+)[ \t]*:[ \t]*(.*?)[ \t]*(?:#.*)?$", text_of("crates.txt"), re.M)
+    listed = re.findall(r"^(\w+)[^#:\n]*:[ \t]*(.*?)[ \t]*(?:#.*)?$", text_of("crates.txt"), re.M)
     return {name: deps.split() for name, deps in listed}
 
 
