@@ -1,4 +1,4 @@
-# What a web front links with, put where compilers look for it. `rt staticlib front` writes the archive before.
+# What a web front links with, put where compilers look for it. `tools/archives` writes the archive before.
 #
 #   make shared                       target/shared/libperdigolh.so.N
 #   make install [PREFIX=/usr/local] [DESTDIR=]
@@ -17,7 +17,7 @@ PLACE = $(DESTDIR)$(PREFIX)
 shared: $(SHARED)
 
 $(ARCHIVE):
-	@echo "no $@: run 'rt staticlib front'" >&2; exit 1
+	@echo "no $@: run 'tools/archives'" >&2; exit 1
 
 $(SHARED): $(ARCHIVE)
 	mkdir -p $(@D)

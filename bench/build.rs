@@ -1,4 +1,4 @@
-//! Links libdigest.a, which `rt staticlib digest` writes, and the measure of the stack, which is in C.
+//! Links libdigest.a, which `tools/archives` writes, and the measure of the stack, which is in C.
 
 use std::env;
 use std::process::Command;

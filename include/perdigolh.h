@@ -2,7 +2,7 @@
  * Perdigolh, the permissions desk, for a web front: the six calls of document 01, and two that only read, from C or any language that
  * can call C.
  *
- * Link target/staticlib/libfront.a, which `rt staticlib front` writes once every contract is proved (x86-64 Linux), or what
+ * Link target/staticlib/libfront.a, which `tools/archives` writes once every contract is proved (x86-64 Linux), or what
  * `make install` put in its place. docs/FRONT.md has a whole front's duties, docs/OUTSIDE.md what to answer outside for each number,
  * examples/front.c a grant from beginning to end, perdigolh_text.h the values as text.
  * The functions are crates/front's; tests/lint/header.py holds this file to that source.

@@ -1,4 +1,4 @@
-//! Links libfront.a, which `rt staticlib front` writes to target/staticlib; PERDIGOLH_ARCHIVE names another folder, with it or with
+//! Links libfront.a, which `tools/archives` writes to target/staticlib; PERDIGOLH_ARCHIVE names another folder, with it or with
 //! the libperdigolh.a of `make install`.
 
 use std::env;
@@ -13,7 +13,7 @@ fn main() {
     let archive = folder.join(format!("lib{}.a", name));
     println!("cargo:rerun-if-changed={}", archive.display());
     if !archive.is_file() {
-        println!("cargo:warning=no {}: run `rt staticlib front`, or set PERDIGOLH_ARCHIVE", archive.display());
+        println!("cargo:warning=no {}: run `tools/archives`, or set PERDIGOLH_ARCHIVE", archive.display());
     }
     println!("cargo:rustc-link-search=native={}", folder.display());
     println!("cargo:rustc-link-lib=static={}", name);

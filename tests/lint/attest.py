@@ -17,20 +17,23 @@ attest = importlib.util.module_from_spec(importlib.util.spec_from_loader("attest
 LOADER.exec_module(attest)
 
 KIT, COMMIT = "kit-1 logic 00ff", "c0ffee"
-WORDS = "sum=00ff native=nat,char,string logic-built=trusted libraries-built=trusted\n"
+WORDS = "sum=00ff native=nat,char,string logic-built=trusted libraries-built=trusted statements=trusted\n"
+DESK = "== desk\nfn desk::check: proved\nlogic=proved functions=3 " + WORDS + "rt: desk proved\n"
+PROGRAM = ("== program\naxioms libc: libc::heap::make, libc::read, libc::see, ... (5 of the 50 declared)\naxioms os: os::c::told (1 of the 10 declared)\n"
+           "logic=proved functions=1 axioms=6 target=x cpu=y " + WORDS + "rt: program proved\n")
+REFUSED = "rt: must-fail desk/wrong.edit: refused, as it must be: ./proofs/check/Answers.antt:2:3: error: it does not follow\n"
+GATE_LOG = "target/gate.log"
 FILES = {
     "crates.txt": "desk:\nprogram: desk io libc\n",
     "crates/desk/specs/Demands.antt": "".join(f"pub record Demand{n} : Type 0 where\n  pub holds : P{n}\n\n" for n in (1, 2, 3)),
     **{f"crates/desk/proofs/Demand{n}.antt": f"pub demand{n} : Demand{n}\ndemand{n} = ..\n" for n in (1, 2, 3)},
     "crates/desk/must-fail/wrong.edit": "",
-    "target/log/desk.say": "logic=proved functions=3 " + WORDS,
-    "target/log/program.say": "axioms libc: libc::read (1 of the 50 declared)\naxioms os: os::c::told (1 of the 10 declared)\n"
-                              "logic=proved functions=1 axioms=2 target=x " + WORDS,
     "target/gate.txt": f"date 2026-01-01T00:00:00Z\ncommit {COMMIT}\nkit {KIT}\nseconds 9\ntally 7 passed, 0 failed\n",
-    "target/gate.log": "rt: must-fail desk/wrong: refused, as it must be (3 s)\n",
-    "kit/libs/libc/src/lib.rt": 'extern "C" {\n    // reads\n    pub fn read(fd: i32) -> isize\n        ensures { λ r. ⌜ Moved r ⌝ };\n}\n',
-    "kit/libs/os/src/c.rt": 'extern "C" {\n    // tells\n    pub fn told() -> i32;\n}\n',
-    "kit/libs/libc/specs/Io.antt": "-- what it may answer\nabbrev pub Moved : ℤ → Type 0\nMoved k = k ≡ 0\n",
+    GATE_LOG: DESK + PROGRAM + REFUSED,
+    "kit/libc/src/lib.rt": 'extern "C" {\n    // reads\n    pub fn read(fd: i32, to: &mut [u8; 8]) -> isize\n        ensures { Moved result };\n    pub fn see() -> i32;\n}\n',
+    "kit/libc/src/heap.rt": 'extern "C" {\n    // makes\n    pub safe fn make<R: Ends>() -> i32;\n}\n',
+    "kit/os/src/lib.rt": 'pub mod c {\n    extern "C" {\n        // tells\n        pub fn told() -> i32;\n    }\n}\n',
+    "kit/libc/specs/Io.antt": "-- what it may answer\nabbrev pub Moved : ℤ → Type 0\nMoved k = k ≡ 0\n",
 }
 SPOILT = [
     ("a failure", "target/gate.txt", "0 failed", "1 failed"),
@@ -39,17 +42,19 @@ SPOILT = [
     ("a tree with changes at the gate", "target/gate.txt", COMMIT, COMMIT + " with changes"),
     ("another kit at the gate", "target/gate.txt", KIT, "kit-2"),
     ("no run", "target/gate.txt", FILES["target/gate.txt"], ""),
-    ("a crate not proved", "target/log/desk.say", "logic=proved", "logic=not-proved"),
-    ("a crate with no report", "target/log/desk.say", FILES["target/log/desk.say"], ""),
+    ("a crate not proved", GATE_LOG, "logic=proved functions=3", "logic=not-proved functions=3"),
+    ("a crate with no report", GATE_LOG, DESK, ""),
+    ("a crate kept from an earlier run", GATE_LOG, DESK, "rt: desk is kept: an earlier run on this machine proved the same files\n"),
+    ("a crate whose tests alone have a report", GATE_LOG, "== desk\n", "== desk: its tests\n"),
     ("a crate more", "crates.txt", "desk:", "other:\ndesk:"),
-    ("a word that trusts more", "target/log/desk.say", "libraries-built", "cache=trusted libraries-built"),
-    ("another native", "target/log/desk.say", "nat,char", "nat,float,char"),
-    ("an axiom that is not named", "target/log/program.say", "axioms=2", "axioms=3"),
-    ("an axiom with no text", "kit/libs/libc/src/lib.rt", "pub fn read", "pub fn reads"),
-    ("an axiom of a module with no text", "kit/libs/os/src/c.rt", "pub fn told", "pub fn tells"),
+    ("a word that trusts more", GATE_LOG, "libraries-built", "cache=trusted libraries-built"),
+    ("another native", GATE_LOG, "nat,char", "nat,float,char"),
+    ("an axiom that is not counted", GATE_LOG, "axioms=6", "axioms=7"),
+    ("an axiom with no text", "kit/libc/src/lib.rt", "pub fn read", "pub fn reads"),
+    ("an axiom of a module with no text", "kit/os/src/lib.rt", "pub fn told", "pub fn tells"),
     ("a demand that is gone", "crates/desk/specs/Demands.antt", "record Demand2", "record Demand4"),
     ("a demand with no proof", "crates/desk/proofs/Demand3.antt", "pub demand3", "pub demand4"),
-    ("an edit that was not refused", "target/gate.log", "refused, as it must be", "NOT REFUSED"),
+    ("an edit that was not refused", GATE_LOG, "refused, as it must be", "NOT REFUSED"),
 ]
 
 
@@ -67,7 +72,7 @@ def told(files, **other):
 
 def main():
     wrong, page = told(FILES)
-    shown = ["7 passed, 0 failed", COMMIT, KIT, "Edits refused: 1 of 1", "Moved k = k ≡ 0", "λ r. ⌜ Moved r ⌝", "pub holds : P3", "2026-01-01", "native=nat,char,string: 2 of 2"]
+    shown = ["7 passed, 0 failed", COMMIT, KIT, "Edits refused: 1 of 1", "Moved k = k ≡ 0", "to: &mut [u8; 8]", "Moved result", "program: 5 of libc, 1 of os", "// makes", "pub holds : P3", "2026-01-01", "native=nat,char,string: 2 of 2"]
     results = [("a tree in order", not wrong and "In order" in page)] + [(f"the page shows {words}", words in page) for words in shown]
     for said, path, old, new in SPOILT:
         assert old in FILES[path], said

@@ -63,15 +63,15 @@ LIMITS = "Limits.antt"
 # The edges P1 to P12, the verdicts and the plays are written with the paper's own numbers, so that a wrong limit shows.
 EXEMPT = {"cases/specs", "plays/src", "verdicts/src"}
 
-# a name may hold digits behind a hyphen, as blocks-55 does
-LITERAL = r"(?<!\w)(?<!\w-)(0x[0-9a-fA-F_]+|0b[01_]+|0o[0-7_]+|[0-9][0-9_]*?)_?(?:[ui](?:8|16|32|64|size))?(?!\w)"
+# a name may hold digits behind its letters, as blocks_55 does
+LITERAL = r"(?<!\w)(0x[0-9a-fA-F_]+|0b[01_]+|0o[0-7_]+|[0-9][0-9_]*?)_?(?:[ui](?:8|16|32|64|size))?(?!\w)"
 NUMBER = re.compile(LITERAL)
 POWER = re.compile(LITERAL + r"\s*(\^|<<)\s*" + LITERAL + r"(\s*-\s*1(?!\w))?")
 IMPL = re.compile(r"^\s*impl\b(?:<[^>]*>)?\s+(\w+)", re.M)
 CONST = re.compile(r"\bconst\s+(\w+)\s*:(?:\[[^\]]*\]|[^=;\[])*=((?:\[[^\]]*\]|[^;\[])*);")
 MOST_WORD = re.compile(r"\bu64::MAX\b")
 # the remainder that a byte holds and a byte's bound, not a record's size
-BYTE = re.compile(r"%\s*256(?!\w)|\(\w+ < 256\)|\bgetD \w+ \w+ 0 < 256(?!\w)")
+BYTE = re.compile(r"%\s*256(?!\w)|\(\w+ < 256\)|\b(?:get_or \w+ \w+ 0|slice_index \w+ \w+) < 256(?!\w)")
 
 
 def impl_blocks(text):
@@ -162,21 +162,21 @@ SAMPLES = [
     ("decide/src/lib.rt", "fn f(time: u64) -> u64 {\n    time + 60\n}", [60]),
     ("token/src/lib.rt", "fn f(time: u64, v: &[u8]) -> bool {\n    v.len() < 43 || 128 < v.len()\n}", [43, 128]),
     ("resource/src/lib.rt", "fn f(k: usize, t: u64) -> usize { 32 + k * 0x100 + t + 300 }", [256, 300]),
-    ("history/specs/Demand3.antt", "young = t < u + 300\nBytes xs = (i : ℕ) → getD xs i 0 < 256\nlong = n < 256", [300, 256]),
+    ("history/specs/Demand3.antt", "young = t < u + 300\nBytes xs = (i : ℕ) → get_or xs i 0 < 256\nOthers xs = (i : ℕ) → slice_index xs i < 256\nlong = n < 256", [300, 256]),
     ("newcomer/specs/Any.antt", "a = 60\nb = 43\nc = 64\nd = 128\ne = 256\nf = 300\ng = 599\nh = 32 + 16\ni = 90", [60, 43, 64, 128, 256, 300, 599, 90]),
     ("ledger/src/a.rt", "impl Code {\n    pub const LIFETIME: u64 = 60;\n    pub fn f() -> u64 { 60 }\n}\nfn g() -> u64 { 9 }", [60, 9]),
     ("ledger/src/b.rt", "impl Token {\n    const LIFETIME: u64 = 300;\n}\nimpl Clock {\n    pub const LIMIT: u64 = 0x100_0000_0000;\n}", []),
-    ("ledger/src/c.rt", "fn f(r: &[u8])\n    requires { ⌜ length (now r) ≡ 256 ⌝ }\n{ }", [256]),
+    ("ledger/src/c.rt", "fn f(r: &[u8])\n    requires { length r.now ≡ 256 }\n{ }", [256]),
     ("ledger/src/d.rt", "fn f(n: usize) -> u8 { (n % 256) as u8 }\nfn g(k: usize) -> usize { k * 256 }", [256]),
-    ("ledger/src/e.rt", "fn f(n: u8) -> usize\n    ensures { λ r. ⌜ (r ≡ n) × (r < 256) ⌝ }\nfn g(s: &[u8])\n    requires { ⌜ length (now s) < 256 ⌝ }", [256]),
+    ("ledger/src/e.rt", "fn f(n: u8) -> usize\n    ensures { (result ≡ n) × (result < 256) }\nfn g(s: &[u8])\n    requires { length s.now < 256 }", [256]),
     ("clients/src/a.rt", "impl Client {\n    const LIFE: u64 = 300;\n    const IDS: [u8; 64] = [0; 64];\n}\nfn f(k: usize) -> usize { 64 * k }", [64]),
     ("frames/src/a.rt", "fn f(a: [u8; Redirect::MOST]) -> [u8; 64] { a }", []),
     ("frames/src/b.rt", "fn f(a: [u8; Redirect::MOST]) -> [u8; 64] { a }", [64]),
     ("sha256/src/a.rt", "fn f(w: [u32; 64], i: usize) -> u32 { if i < 64 { w[i] } else { 0x80 } }\nfn g(t: u64) -> u64 { t + 43 + 60 }", [43, 60]),
-    ("octets/specs/Numbers.antt", "numFrom acc (x ∷ xs) = numFrom (acc * 256 + x) xs\nwide = 64", [64]),
-    ("ledger/specs/Limits.antt", "abbrev pub clockLimit : ℕ\nclockLimit = 2 ^ 40\ncodeLife = 60", []),
+    ("octets/specs/Numbers.antt", "num_from acc (x ∷ xs) = num_from (acc * 256 + x) xs\nwide = 64", [64]),
+    ("ledger/specs/Limits.antt", "abbrev pub clock_limit : ℕ\nclock_limit = 2 ^ 40\ncode_life = 60", []),
     ("ledger/specs/Fields.antt", "token r = part r 128 32\nchallenge r = part r 48 43\nlife = 599", [43, 599]),
-    ("ledger/specs/Sound.antt", "-- below 2^40, 43 characters\npub blocks-43 : ltb t (2 ^ 41) -- 599\nlast = 2 ^ 64 - 1\nlow = n % 2 ^ 64", [2**41, 2**64 - 1]),
+    ("ledger/specs/Sound.antt", "-- below 2^40, 43 characters\npub blocks_43 : ltb t (2 ^ 41) -- 599\nlast = 2 ^ 64 - 1\nlow = n % 2 ^ 64", [2**41, 2**64 - 1]),
     ("ledger/specs/Text.antt", "long r = length r ≡ 43", [43]),
     ("cases/specs/Edges.antt", "p1 = start (blank 288)", []),
 ]

@@ -5,8 +5,8 @@
   tests/lint/edits.py --self-test   look at made-up edits, where the answer is known
 
 An edit opens with a remark, `# ..`, that says what is at stake. It names a file of its crate's src/ or specs/, never of proofs/, since an
-edited proof shows nothing of the desk; its old text stands there once, outside remarks, and its new text is another. No more than MOST in all:
-each pays the check of its whole crate.
+edited proof shows nothing of the desk; its old text stands there once, outside remarks, in what its earlier changes made, and its new text is
+another. No more than MOST in all: each pays the check of its whole crate.
 """
 import re
 import sys
@@ -36,7 +36,7 @@ def changes(text):
 def problem(edit):
     """What is wrong with an edit, or None."""
     crate, text = edit.parent.parent, edit.read_text(encoding="utf8")
-    found = list(changes(text))
+    found, made = list(changes(text)), {}
     if not re.match(r"# \S", text):
         return "says not what is at stake"
     if not found:
@@ -48,13 +48,14 @@ def problem(edit):
             return f"there is no {file}"
         if not old or old.strip() == new.strip():
             return "the new text is the old one"
-        source = (crate / file).read_text(encoding="utf8")
+        source = made.get(file) or (crate / file).read_text(encoding="utf8")
         plain = without(RATTLE_COMMENT, source) if file.endswith(".rt") else without(ANTT_SKIP, source)
         places = [at.start() for at in re.finditer(re.escape(old), source)]
         if len(places) != 1:
             return f"its old text stands {len(places)} times in {file}"
         if not plain[places[0]:places[0] + len(old)].strip():
             return "is an edit of a remark"
+        made[file] = source.replace(old, new)
     return None
 
 
@@ -69,10 +70,11 @@ CODE = 'fn f(a: u8) -> u8 { a + 1 }\nfn g(a: u8) -> u8 { same(a, b"https://") } 
 SAMPLES = {
     "good": ("# why\nfile: src/lib.rt\nold: a + 1\nnew: a + 2\n", None),
     "two": ("# why\nfile: src/lib.rt\nold: a + 1\nnew: a + 2\nold: same(\nnew: other(\n", None),
+    "then": ("# why\nfile: src/lib.rt\nold: a + 1\nnew: a + 2 + 3\nold: 2 + 3\nnew: 5\n", None),
     "text": ('# why\nfile: src/lib.rt\nold: b"https://"\nnew: b"http://"\n', None),
     "silent": ("file: src/lib.rt\nold: a + 1\nnew: a + 2\n", "says not what is at stake"),
     "empty": ("# why\nfile: src/lib.rt\n", "changes nothing"),
-    "proof": ("# why\nfile: proofs/f/Proof.antt\nold: f\nnew: g\n", "is an edit of proofs/f/Proof.antt"),
+    "proof": ("# why\nfile: proofs/f/Answers.antt\nold: f\nnew: g\n", "is an edit of proofs/f/Answers.antt"),
     "gone": ("# why\nfile: src/gone.rt\nold: f\nnew: g\n", "there is no src/gone.rt"),
     "same": ("# why\nfile: src/lib.rt\nold: a + 1\nnew:  a + 1\n", "the new text is the old one"),
     "stale": ("# why\nfile: src/lib.rt\nold: a + 9\nnew: a + 2\n", "its old text stands 0 times in src/lib.rt"),
@@ -87,7 +89,7 @@ def self_test():
         for folder in ("src", "proofs/f", "must-fail"):
             (crate / folder).mkdir(parents=True)
         (crate / "src/lib.rt").write_text(CODE, encoding="utf8")
-        (crate / "proofs/f/Proof.antt").write_text("f : g\n", encoding="utf8")
+        (crate / "proofs/f/Answers.antt").write_text("f : g\n", encoding="utf8")
         for name, (text, _) in SAMPLES.items():
             (crate / f"must-fail/{name}.edit").write_text(text, encoding="utf8")
         found = check(Path(room))[1]

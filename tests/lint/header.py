@@ -1,5 +1,5 @@
 #!/usr/bin/env python3
-"""include/perdigolh.h and bindings/rust say of the exported calls what crates/front and the crates below it say.
+"""include/perdigolh.h and bindings/rust say of the exported calls what crates/front_c and the crates below it say.
 
 Read from both sides and compared: the functions, their arguments in order with names and types, what they answer; the structs with
 their fields in order; the sizes and lifetimes; that YES is the one yes and NO none. A slice is a pointer and a length, an array behind a
@@ -16,7 +16,8 @@ from sources import TOP, tally  # noqa: E402
 
 NUMBERS = {"u8": "uint8_t", "u32": "uint32_t", "u64": "uint64_t", "usize": "size_t"}
 STRUCTS = ("Answer", "Decided", "Swept", "Introspected")
-REPR_C = r"#\[repr\(C\)\]\s*pub struct (\w+) \{([^}]*)\}"
+EXPORTS = "crates/front/src/lib.rt"
+REPR_C = r"#\[repr\(C\)\]\s*(?:#\[derive\([^\]]*\)\]\s*)?pub struct (\w+) \{([^}]*)\}"
 # each size and lifetime: its name in the header, in the bindings, and the file and name of its source
 CONSTANTS = [
     ("LEDGER_HEAD", "ledger/src/limit.rt", "Ledger::HEAD"),
@@ -66,7 +67,7 @@ def c_type(rattle):
 def rattle_calls(text):
     """Each exported function as {name: (arguments as C has them, answer as C has it)}."""
     calls = {}
-    for name, arguments, answer in re.findall(r'#\[no_mangle\]\s*pub extern "C" fn (\w+)\(([^)]*)\)\s*->\s*(\w+)', text):
+    for name, arguments, answer in re.findall(r'#\[unsafe\(no_mangle\)\]\s*pub extern "C" fn (\w+)\(([^)]*)\)\s*->\s*(\w+)', text):
         flat = []
         for argument in filter(None, map(squeeze, arguments.split(","))):
             word, kind = re.fullmatch(r"(\w+): (.+)", argument).groups()
@@ -143,23 +144,24 @@ def text_most():
         return " ".join(re.search(rf"^{name}(?: \w+)? =\s+(.*?)(?=\n\n|\Z)", read(f"crates/{path}"), re.M | re.S).group(1).split())
 
     text = "description/specs/Apart.antt"
-    names = {"n": defined(text, "expiryDigits"), "decimalMost": defined("texts/specs/Decimal.antt", "decimalMost"), "scopeMost": defined("description/specs/Scope.antt", "scopeMost"),
-             "clientSize": defined(text, "clientSize"), "keySize": defined(text, "keySize")}
-    total = re.sub(r"[A-Za-z]\w*", lambda name: names[name.group()], defined(text, "mostWith")).replace("/", "//")
-    return eval(total) if re.fullmatch(r"[\d+*/() ]+", total) and defined(text, "liveMost") == "mostWith expiryDigits" else None  # numbers and signs alone
+    names = {"n": defined(text, "expiry_digits"), "decimal_most": defined("texts/specs/Decimal.antt", "decimal_most"), "scope_most": defined("description/specs/Scope.antt", "scope_most"),
+             "client_size": defined(text, "client_size"), "key_size": defined(text, "key_size")}
+    total = re.sub(r"[A-Za-z]\w*", lambda name: names[name.group()], defined(text, "most_with")).replace("/", "//")
+    return eval(total) if re.fullmatch(r"[\d+*/() ]+", total) and defined(text, "live_most") == "most_with expiry_digits" else None  # numbers and signs alone
 
 
 def results():
     """Each comparison as its name, what is said and what the source says."""
-    front, answers = read("crates/front/src/lib.rt"), read("crates/front/src/answer.rt")
+    exports, answers = read(EXPORTS), read("crates/front/src/answer.rt")
     header, raw = read("include/perdigolh.h"), read("bindings/rust/src/raw.rs")
     plain = re.sub(r"/\*.*?\*/", "", header, flags=re.S)
     library = read("bindings/rust/src/lib.rs")
 
-    calls = rattle_calls(front)
+    calls = rattle_calls(exports)
     names = ("start", "push", "decide", "token", "resource", "sweep", "pending", "introspect", "version", f"interface_{constant('front/src/version.rt', 'Interface::NUMBER')}")
     yield "the source exports the calls, version and interface", sorted(calls), sorted(f"perdigolh_{n}" for n in names)
-    yield "nothing else of crates/front is exported", len(re.findall("no_mangle", front + answers + read("crates/front/src/choice.rt"))), len(calls)
+    sources = [path.relative_to(TOP) for crate in ("front", "front_c") for path in sorted((TOP / "crates" / crate / "src").rglob("*.rt"))]
+    yield "nothing else of the front's crates is exported", sum(len(re.findall("no_mangle", read(str(path)))) for path in sources), len(calls)
     for side, said in (("header", header_calls(plain)), ("bindings", raw_calls(raw))):
         yield f"{side}: the calls", sorted(said), sorted(calls)
         for name in calls:

@@ -1,7 +1,7 @@
 #!/usr/bin/env python3
 """The kit that proves is the kit that is pinned: `rt version` is the line of .ci/kit, and every report of a check names its logic.
 
-  tests/lint/kit.py               ask rt, and read target/log
+  tests/lint/kit.py               ask rt, and read target/ci.log
   tests/lint/kit.py --self-test   other kits and reports of another logic: each must be noticed
 """
 import re
@@ -22,9 +22,11 @@ def asked():
 
 
 def reports():
-    """The verdict line of each crate's check."""
-    found = {path.stem: re.findall(r"^logic=.*$", path.read_text(encoding="utf8"), re.M) for path in sorted((TOP / "target/log").glob("*.say"))}
-    return {crate: lines[-1] for crate, lines in found.items() if lines}
+    """The verdict line of each crate's check, and of its tests', in what the gate's rt ci said."""
+    log = TOP / "target/ci.log"
+    parts = re.split(r"^== (\w+(?:: its tests)?)$", log.read_text(encoding="utf8") if log.is_file() else "", flags=re.M)
+    found = {crate: re.findall(r"^logic=.*$", said, re.M) for crate, said in zip(parts[1::2], parts[2::2])}
+    return {crate: lines[0] for crate, lines in found.items() if lines}
 
 
 def results(pinned, here, verdicts):

@@ -13,7 +13,7 @@ from sources import TOP, tally  # noqa: E402
 PAGE, HEADER = "docs/FRONT.md", "include/perdigolh.h"
 LEDGER, CLIENTS = "crates/ledger/specs/Fields.antt", "crates/clients/specs/Fields.antt"
 # the head's fields and the record's stand in one file; the record begins with its state
-HEAD = ("clockSpan", "nextSpan", "headRestSpan")
+HEAD = ("clock_span", "next_span", "head_rest_span")
 ROW = r"^\| (\d+)(?:\.\.(\d+))? \|"
 REMARK = r"^ \*   (\d+)\.\.(\d+) "
 
@@ -26,7 +26,7 @@ def read(path):
 
 def defined(path, wanted):
     """The places of the definitions' fields in order."""
-    found = re.findall(r"^(\w+Span) = span (\d+) (\d+)$", read(path), re.M)
+    found = re.findall(r"^(\w+_span) = span (\d+) (\d+)$", read(path), re.M)
     return sorted((int(a), int(b)) for name, a, b in found if wanted(name))
 
 

@@ -8,13 +8,13 @@
 
 A function is public where a caller of its crate can name it: `pub fn` in lib.rt or in a module that lib.rt makes public; and wherever it
 stands, where it is exported to C. Programs have none.
-The forms, r being what is returned and x a buffer lent to be written:
-  value   r ≡ ..                        slice   now r ≡ ..
-  bytes   now (x .exit) ≡ ..            both    (r ≡ ..) × (now (x .exit) ≡ ..)
-  fields  (r .a ≡ ..) × (r .b ≡ ..)     call    k r (now (x .exit)) ≡ .., k putting each of its arguments, or each field of one, into a record
+The forms, x being a buffer lent to be written:
+  value   result ≡ ..                             slice   result.now ≡ ..
+  bytes   x.new ≡ ..                              both    (result ≡ ..) × (x.new ≡ ..)
+  fields  (result.a ≡ ..) × (result.b ≡ ..)       call    k result x.new ≡ .., k putting each of its arguments, or each field of one, into a record
 On the left stand all that is returned and every buffer lent to be written; on the right neither stands. A buffer as it was at entry may stand
 on both sides. There is no `requires`.
-A second `ensures` only narrows what is allowed, so one of them has to have a form.
+A second `ensures` only narrows what is allowed, so one of them has to have a form, or the plain equations of all of them together.
 """
 import re
 import sys
@@ -24,10 +24,11 @@ from sources import RATTLE_COMMENT, TOP, closing, tally, without  # noqa: E402
 
 PAGE = "docs/OUTCOMES.md"
 BEGIN, END = "<!-- functions -->", "<!-- end -->"
-EXIT = re.compile(r"now \((\w+) \.exit\)")
-ENTRY = re.compile(r"now \(\w+ \.entry\)")  # known before the call, on whichever side it stands
+EXIT = re.compile(r"(?<![\w.])(\w+)\.new\b")
+ENTRY = re.compile(r"(?<![\w.])(?!result\b)\w+\.(?:old|now)\b")  # known before the call, on whichever side it stands
+RESULT = re.compile(r"(?<![\w.])result(?!\w)")
 FUNCTION = re.compile(r'\bpub (extern "C" )?fn (\w+)\s*\(')
-IMPORT = re.compile(r"\buse\s+Rattle·(\w+)(?:·\w+)?\.specs\.([\w.]+)\.\{([^}]*)\}")
+IMPORT = re.compile(r"\buse\s+Rattle\.(?!std\b)(\w+)\.specs\.([\w.]+)\.\{([^}]*)\}")
 
 spoilt = {}  # the self-test's files
 
@@ -45,7 +46,7 @@ def functions(text):
         returned = re.match(r"\s*->\s*([^\n{]+?)\s*(?=\n|\{|requires|ensures)", text[at:])
         at += returned.end() if returned else 0
         begin = at
-        while clause := re.match(r"\s*(requires|ensures)\s*\{", text[at:]):
+        while clause := re.match(r"\s*(requires|ensures)(?:\s+\w+)?\s*\{", text[at:]):
             stop = closing(text, at + clause.end() - 1)
             clauses[clause.group(1)] += [text[at + clause.end():stop - 1]]
             at = stop
@@ -55,9 +56,8 @@ def functions(text):
 
 def crates():
     for line in read("crates.txt").splitlines():
-        crate = line.partition("#")[0].partition(":")[0].strip()
-        if crate:
-            yield crate
+        words = line.partition("#")[0].partition(":")[0].split()  # the name, and the word staticlib behind it
+        yield from words[:1]
 
 
 def files(crate):
@@ -101,7 +101,7 @@ def keeps_all(path, head):
     named = re.findall(r"(\w+)\s*=\s*([^;]+?)\s*(?:;|$)", found["fields"])
     if sorted(arguments) == sorted(value for _, value in named):
         return True
-    copied = [re.fullmatch(rf"(?:(\w+) \()?{arguments[0]} \.{field}\)?", value) for field, value in named]
+    copied = [re.fullmatch(rf"(?:(\w+) )?{arguments[0]}\.{field}", value) for field, value in named]
     whole = len(arguments) == 1 and all(copied) and len(named) == width(path, name_of(found))
     return whole and all(keeps_all(path, c.group(1)) for c in copied if c.group(1))
 
@@ -155,41 +155,39 @@ def split_equation(side):
 def form(clauses, lent, returned, path, source):
     """The form's name and the equation's right side of the first clause that has a form, or ValueError with what is wrong."""
     wrong = ValueError("has a requires" if clauses["requires"] else "has no ensures")
-    for clause in clauses["ensures"] if not clauses["requires"] else []:
+    said = [] if clauses["requires"] else [conjuncts(" ".join(clause.split())) for clause in clauses["ensures"]]
+    plain = [part for parts in said for part in parts if re.match(r"result(?:\.\w+)? ≡ |\w+\.new ≡ ", part)]
+    for parts in said + ([plain] if plain else []):
         try:
-            return form_of(clause, lent, returned, path, source)
-        except ValueError as said:
-            wrong = said
+            return form_of(parts, lent, returned, path, source)
+        except ValueError as found:
+            wrong = found
     raise wrong
 
 
-def form_of(clause, lent, returned, path, source):
-    told = re.fullmatch(r"λ (\w+)\. ⌜ (.*) ⌝", " ".join(clause.split()))
-    if not told:
-        raise ValueError("has no ensures of one statement")
-    r, statement = told.groups()
-    sides = [split_equation(part) for part in conjuncts(statement)]
+def form_of(parts, lent, returned, path, source):
+    sides = [split_equation(part) for part in parts]
     lefts, rights = [left for left, _ in sides], "; ".join(right for _, right in sides)
     settled = [x for left in lefts for x in EXIT.findall(left)]
     if set(settled) != lent:
         raise ValueError(f"says {sorted(set(settled))} of the buffers {sorted(lent)}")
-    if ".exit" in rights or (r != "_" and re.search(rf"(?<![\w.]){r}(?!\w)", rights)):
+    if EXIT.search(rights) or RESULT.search(rights):
         raise ValueError("is no equation with what is known at entry")
-    simple = {(r,): "value", (f"now {r}",): "slice"}.get(tuple(lefts))
+    simple = {("result",): "value", ("result.now",): "slice"}.get(tuple(lefts))
     if simple and not lent:
         return simple, rights
     if returned is None and len(lefts) == 1 and EXIT.fullmatch(lefts[0]):
         return "bytes", rights
-    if len(lefts) == 2 and lefts[0] == r and EXIT.fullmatch(lefts[1]):
+    if len(lefts) == 2 and lefts[0] == "result" and EXIT.fullmatch(lefts[1]):
         return "both", rights
-    if not lent and {f"{r} .{field}" for field in fields(source, returned)} == set(lefts):
+    if not lent and {f"result.{field}" for field in fields(source, returned)} == set(lefts):
         return "fields", rights
     rest = ENTRY.sub("", EXIT.sub("", lefts[0]))
-    heads = [w for w in re.findall(r"[^\s()]+", rest) if w != r and not w.startswith(".")]
-    whole = re.search(rf"(?<![\w.]){r}(?! \.)(?!\w)", rest) or fields(source, returned) == set(re.findall(rf"\b{r} \.(\w+)", rest))
+    heads = [word for word in re.findall(r"[^\s()]+", rest) if not RESULT.match(word)]
+    whole = re.search(r"(?<![\w.])result(?![\w.])", rest) or fields(source, returned) == set(re.findall(r"(?<![\w.])result\.(\w+)", rest))
     if len(lefts) == 1 and heads and whole and all(keeps_all(path, head) for head in heads):
         return "call", rights
-    raise ValueError(f"has none of the forms: {statement}")
+    raise ValueError(f"has none of the forms: {' × '.join(parts)}")
 
 
 def rows_of(path, public):
@@ -233,9 +231,9 @@ def write(page):
 # The self-test.
 
 ADDED = [
-    'pub fn another(x: u8) -> u8\n    ensures { λ r. ⌜ r ≡ x ⌝ }\n{\n    x\n}\n',
-    '#[no_mangle]\npub extern "C" fn another(x: u8) -> u8\n    ensures { λ r. ⌜ r ≡ x ⌝ }\n{\n    x\n}\n',
-    '#[no_mangle]\npub extern "C" fn another(x: u8) -> u8 {\n    x\n}\n',
+    'pub fn another(x: u8) -> u8\n    ensures { result ≡ x }\n{\n    x\n}\n',
+    '#[unsafe(no_mangle)]\npub extern "C" fn another(x: u8) -> u8\n    ensures { result ≡ x }\n{\n    x\n}\n',
+    '#[unsafe(no_mangle)]\npub extern "C" fn another(x: u8) -> u8 {\n    x\n}\n',
 ]
 
 
@@ -248,7 +246,7 @@ def faults(page):
             for name, exported, _, _, clauses, (begin, end) in functions(plain):
                 if public or exported:
                     yield f"{path}: the contract of {name} is dropped", path, text[:begin] + text[end:]
-                    yield f"{path}: {name} asks for something", path, text[:begin] + "\n    requires { ⌜ 1 ≡ 1 ⌝ }" + text[begin:]
+                    yield f"{path}: {name} asks for something", path, text[:begin] + "\n    requires { 1 ≡ 1 }" + text[begin:]
                     row = next(line for line in page.split("\n") if line.startswith(f"| `{path}: {name}` |"))
                     yield f"{path}: {name} has no row", PAGE, page.replace(row + "\n", "")
             for added in ADDED if public else ADDED[1:]:
@@ -269,7 +267,7 @@ def faults(page):
 def heads_in(path, public):
     """The definitions that the contracts of a source's public functions read the outcome through."""
     for _, exported, _, _, clauses, _ in functions(without(RATTLE_COMMENT, read(path))):
-        lefts = " ".join(re.findall(r"⌜ ([^≡]*) ≡", " ".join(clauses["ensures"])) if public or exported else [])
+        lefts = " ".join((clause.partition(" ≡ ")[0] for clause in clauses["ensures"]) if public or exported else [])
         yield from (word for word in re.findall(r"\w+", lefts) if definition(path, word)[1])
 
 

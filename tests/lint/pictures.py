@@ -18,15 +18,15 @@ FOLDER = "docs/pictures"
 PICTURES = re.findall(r'"(\w+)"', re.search(r"^PICTURES = (.*)$", (TOP / "tools/pictures/draw").read_text(encoding="utf8"), re.M).group(1))
 # a source, what is changed in it, and the pictures that tell
 CHANGES = [
-    ("crates/clients/specs/Limits.antt", "referenceLifetime = 90", "referenceLifetime = 91", ["steps", "states"]),
-    ("crates/clients/specs/Limits.antt", "lifetimeMost = 599", "lifetimeMost = 598", ["steps", "states"]),
-    ("crates/ledger/specs/Limits.antt", "tokenLifetime = 300", "tokenLifetime = 301", ["steps", "states"]),
-    ("crates/ledger/specs/Limits.antt", "recordsMost = 200", "recordsMost = 100", ["bytes"]),
-    ("crates/ledger/specs/Fields.antt", "holderSpan = span 24 32", "holderSpan = span 24 30", ["bytes"]),
+    ("crates/clients/specs/Limits.antt", "reference_lifetime = 90", "reference_lifetime = 91", ["steps", "states"]),
+    ("crates/clients/specs/Limits.antt", "lifetime_most = 599", "lifetime_most = 598", ["steps", "states"]),
+    ("crates/ledger/specs/Limits.antt", "token_lifetime = 300", "token_lifetime = 301", ["steps", "states"]),
+    ("crates/ledger/specs/Limits.antt", "records_most = 200", "records_most = 100", ["bytes"]),
+    ("crates/ledger/specs/Fields.antt", "holder_span = span 24 32", "holder_span = span 24 30", ["bytes"]),
     ("crates/ledger/specs/Fields.antt", '"scope bits"', '"scope"', ["bytes"]),
-    ("crates/ledger/specs/Write.antt", "(withHolder who ", "(", ["bytes", "states"]),
-    ("crates/desk/specs/Token.antt", "(NoKey when zeros (q .presented))\n    ∷ ", "", ["states"]),
-    ("crates/desk/specs/Answers.antt", "numberOf NoHolder = 12", "numberOf NoHolder = 21", ["states"]),
+    ("crates/ledger/specs/Write.antt", "(with_holder who ", "(", ["bytes", "states"]),
+    ("crates/desk/specs/Token.antt", "(NoKey when zeros q.presented)\n    ∷ ", "", ["states"]),
+    ("crates/desk/specs/Answers.antt", "number_of NoHolder = 12", "number_of NoHolder = 21", ["states"]),
     ("docs/TRUST.md", "| Now is the time |", "| The time is right |", ["trust"]),
     ("crates.txt", "\nlines:", "\nother: lines\nlines:", ["crates"]),
 ]

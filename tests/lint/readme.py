@@ -7,7 +7,7 @@
 - README's worked example is what tools/grant prints: its lines stand in tests/data/grant.expected, in order.
 - README's lines of Rust stand in tests/front/src/readme.rs, in order, which the gate compiles.
 - Every other indented line is a command: its program is one of the kit's, of the system's or of this repository, the crates that it names
-  are listed, and so are the sources of what it names in target/.
+  are listed, and so are the sources of what it names in target/ or in a crate's out/.
 """
 import re
 import sys
@@ -17,11 +17,11 @@ from sources import TOP, tally  # noqa: E402
 
 README, EXAMPLE, RUST = "README.md", "tests/data/grant.expected", "tests/front/src/readme.rs"
 SECTION, INDENT = "One grant, step by step", "    "
-VERBS = {"check", "ci", "dev", "try", "staticlib", "fmt", "must-fail"}
-SYSTEM = {"cc", "cargo"}
-# what stands in target/, and the source that it is made of
+VERBS = {"check", "ci", "run", "lib", "try", "fmt", "must-fail"}
+SYSTEM = {"cc", "cargo", "cd"}
+# what is made, and the source that it is made of
 MADE = [
-    (r"target/bin/(\w+)", "crates/{}/src/main.rt"),
+    (r"crates/(\w+)/out/\1", "crates/{}/src/main.rt"),
     (r"target/staticlib/lib(\w+)\.a", "crates/{}/src/lib.rt"),
     (r"target/front/release/(\w+)", "tests/front/src/bin/{}.rs"),
     (r"target/keeper/release/(\w+)", "bindings/keeper/src/bin/{}.rs"),
@@ -65,17 +65,18 @@ def missing(word, after):
         return None if (TOP / f"bindings/rust/examples/{word}.rs").is_file() else f"no example {word}"
     if word.startswith("-I"):
         word = word[2:] + "/"
+    word = word.lstrip("<")
     return None if "/" not in word or (TOP / word).exists() else f"no {word}"
 
 
 def command_problem(words):
-    crates = re.findall(r"^(\w+)\s*:", read("crates.txt"), re.M)
+    crates = re.findall(r"^(\w+)[^#:\n]*:", read("crates.txt"), re.M)
     program = words[0]
     if program == "rt":
         if words[1] not in VERBS:
             return f"rt has no {words[1]}"
-        unlisted = [word for word in words[2:] if not word.startswith("-") and word not in crates]
-        return f"no crate {unlisted[0]}" if unlisted else None
+        unlisted = [word for word in words[2:] if not word.startswith(("-", "<")) and word not in crates]
+        return f"no crate {unlisted[0]}" if unlisted else next(filter(None, (missing(word, None) for word in words[2:] if word.startswith("<"))), None)
     if program not in SYSTEM and missing(program, None):
         return missing(program, None)
     if program not in SYSTEM and "/" not in program:

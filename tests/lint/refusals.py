@@ -4,7 +4,7 @@
   tests/lint/refusals.py               compare
   tests/lint/refusals.py --self-test   drop each row of each list, and change its number and its words: each must be noticed
 
-The definition (numberOf) is what the others are held to: the enum and its numbers in the code, the header, the bindings, the second program,
+The definition (number_of) is what the others are held to: the enum and its numbers in the code, the header, the bindings, the second program,
 the tools, and PROMISES, which has a row for each number. The numbers of each call, in the order of its definition's checks, are held to the
 header, the bindings, and the lists that the tests go by. So a new row is one line in each, and none can be missed.
 """
@@ -23,7 +23,7 @@ PLAYS, STREAMS, BESIDE = "tests/runs/plays.py", "tests/generators/stream_maker.p
 
 # Each list: its file, what stands around it, and a row of it.
 LISTS = {
-    "the definition": (DEFINITION, r"(?s).*", r"^numberOf (?P<name>\w+) = (?P<number>\d+)$"),
+    "the definition": (DEFINITION, r"(?s).*", r"^number_of (?P<name>\w+) = (?P<number>\d+)$"),
     "the enum": (CODE, r"pub enum Refusal \{\n(.*?)\n\}", r"^    (?P<name>\w+),$"),
     "the enum's numbers": (CODE, r"match self \{\n(.*?)\n        \}", r"^ +Refusal::(?P<name>\w+) => (?P<number>\d+),$"),
     "the header": (HEADER, r"enum perdigolh_number \{\n(.*?)\n\};", r"^    PERDIGOLH_(?P<name>\w+) = (?P<number>\d+),? *(?:/\* (?P<words>.*?) \*/)?$"),
@@ -94,7 +94,7 @@ def orders():
     def checks(name):
         return [numbers[row] for body in bodies(name) for row in re.findall(r"\((\w+) when", body)]
 
-    return {"start": [numbers["LedgerUnsound"]]} | {call: checks("begins") + checks(f"{call}Checks") for call in NAMED}
+    return {"start": [numbers["LedgerUnsound"]]} | {call: checks("begins") + checks(f"{call}_checks") for call in NAMED}
 
 
 def results():

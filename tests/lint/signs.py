@@ -5,7 +5,7 @@
   tests/lint/signs.py --self-test   take each row out of the page, and bring new signs in: each must be noticed
 
 A sign is a run of characters that are no letters, digits or brackets; a word of the languages (WORDS); a name that a file takes from the kit
-by a `use`; an infix name of the repository's own, as `_when_`. It is explained where the first cell of a row has it in backticks.
+by a `use`; an infix name of the repository's own, as `◌when◌`. It is explained where the first cell of a row has it in backticks.
 """
 import re
 import sys
@@ -15,30 +15,30 @@ from sources import ANTT_SKIP, RATTLE_SKIP, TOP, closing, tally, without  # noqa
 
 PAGE = "docs/READING.md"
 WORDS = {"Type", "Unit", "where", "record", "data", "module", "infixr", "infixl", "abbrev", "unfoldable", "pub", "use", "as", "mod", "let", "in", "λ",
-         "now", "entry", "exit", "ensures", "requires", "ghost", "case", "if", "do"}
-SIGN = re.compile(r"[^\w\s(){}\[\]'·\"`]+|λ|\b0x")
+         "result", "now", "old", "new", "ensures", "requires", "ghost", "case", "if", "do"}
+SIGN = re.compile(r"[^\w\s(){}\[\]'◌\"`]+|λ|\b0x")
 STRING = re.compile(r'"(?:\\.|[^"\\\n])*"')  # what a text says is no sign
-WORD = re.compile(r"(?<![\w'-])[A-Za-z][\w'-]*")
+WORD = re.compile(r"(?<![\w'])[A-Za-z][\w']*")
+OWN = {path.name for path in TOP.glob("crates/*")}
 USE = re.compile(r"^\s*(?:ghost |pub )?use\s+([^\s{;]+?)(?:\.\{([^}]*)\})?;?\s*$", re.M)
 
 
 def clauses(text):
     """The contracts of a file of code, with the words before them."""
-    for m in re.finditer(r"\b(?:ensures|requires) \{", text):
+    for m in re.finditer(r"\b(?:ensures|requires)(?: \w+)? \{", text):
         yield text[m.start():closing(text, m.end() - 1)]
 
 
 def taken(text):
     """What a file takes from the kit."""
     for module, listed in USE.findall(text):
-        if listed and not module.startswith("Rattle"):
-            yield from (re.split(r"\s+as\s+", name.strip())[0] for name in listed.split(",") if name.strip())
+        if listed and not (module.startswith("Rattle.") and module.split(".")[1] in OWN):
+            yield from (re.split(r"\s+as\s+", name.strip())[0].strip("◌") for name in listed.split(",") if name.strip())
 
 
 def signs(text):
-    """The signs of a piece of a definition or of a contract, hyphens inside a name left out."""
-    plain = re.sub(r"(?<=\w)-(?=\w)", "", text)
-    yield from SIGN.findall(plain)
+    """The signs of a piece of a definition or of a contract."""
+    yield from SIGN.findall(text)
     yield from (word for word in WORD.findall(text) if word in WORDS)
 
 
@@ -49,8 +49,8 @@ def found(files):
         antt = path.endswith(".antt")
         text = without(STRING, without(ANTT_SKIP, text)) if antt else without(RATTLE_SKIP, text)
         pieces = [USE.sub("", text)] if antt else list(clauses(text))
-        for sign in [*taken(text), *(sign for piece in pieces for sign in signs(piece)), *(re.findall(r"(?<!\S)_\w+_(?= :)", text) if antt else [])]:
-            where.setdefault(sign.strip("_") or sign, path)
+        for sign in [*taken(text), *(sign for piece in pieces for sign in signs(piece)), *(re.findall(r"(?<!\S)◌(\w+)◌(?= :)", text) if antt else [])]:
+            where.setdefault(sign, path)
     return where
 
 
@@ -59,7 +59,7 @@ def explained(page):
     section = re.search(r"^## Signs\n(.*?)(?=^## )", page, re.M | re.S).group(1)
     cells = [re.sub(r"\\\|", "|", m) for m in re.findall(r"^\| ((?:[^|\\]|\\.)*) \|", section, re.M)]
     spans = " ".join(span for cell in cells for span in re.findall(r"`([^`]*)`", cell))
-    return set(SIGN.findall(spans)) | set(re.findall(r"[^\s(){},;.]+", spans)) | {"_".join(re.findall(r"[^_]+", span)) for span in spans.split()}
+    return set(SIGN.findall(spans)) | set(re.findall(r"[^\s(){},;.]+", spans))
 
 
 def files():
@@ -82,9 +82,9 @@ def self_test():
         needed = explained(page) - explained(rest)
         if needed & set(found(sources)):
             results.append((f"without {row[:40]}", bool(missing(sources, rest))))
-    for said, more in (("a new sign", "a : A\na = b ⊕ c\n"), ("a new word", "f x = case x\n"), ("a name of the kit", "use lib.ListN.{reverse}\n"), ("an infix", "_upon_ : A\n")):
+    for said, more in (("a new sign", "a : A\na = b ⊕ c\n"), ("a new word", "f x = case x\n"), ("a name of the kit", "use Rattle.std.specs.Prelude.{reverse}\n"), ("an infix", "◌upon◌ : A\n")):
         results.append((said, bool(missing(sources | {"crates/x/specs/X.antt": more}, page))))
-    results.append(("a contract's sign", bool(missing(sources | {"crates/x/src/lib.rt": "fn f()\n    ensures { λ r. ⟦ r ⟧ }\n"}, page))))
+    results.append(("a contract's sign", bool(missing(sources | {"crates/x/src/lib.rt": "fn f()\n    ensures last { ⟦ result ⟧ }\n"}, page))))
     wrong = [f"{said}: not as it should be" for said, good in results if not good]
     return tally(len(results) - len(wrong), wrong)
 

@@ -8,8 +8,8 @@
 
 Names are the definitions, laws, records, data types and rulesets of specs/ and proofs/, and the functions, structs, enums and constants
 of src/. A name is reached from a root, or from a name that is reached and has it in its text; its own text does not count, nor does an
-import. Roots are `main`, exported functions, the proofs of functions (`NAME-spec` in a Proof.antt), what a page of docs/ or README cites or
-quotes, and a function that takes nothing and answers a constant, whose contract ties it to its definition. The table of docs/OUTCOMES.md is
+import. Roots are `main`, exported functions, the answers and invariants of functions (of a type `goal.NAME`, goal being a function's Goals or
+Given; `NAME-spec` in a Proof.antt), what a page of docs/ or README cites or quotes, and a function that takes nothing and answers a constant, whose contract ties it to its definition. The table of docs/OUTCOMES.md is
 no root: it is written from the sources. Fields and variants are not looked at; where a page cites a field, it cites its record.
 A word stands for a name wherever it is no projection, so that a local variable can hide an unused name, and a finding is one.
 An import is unused where no text of its file has the name, a crate of crates.txt where no source of the other has it.
@@ -24,20 +24,21 @@ from pathlib import Path
 sys.dont_write_bytecode = True
 from sources import ANTT_SKIP, BLOCK, CITATION, RATTLE_SKIP, TOP, closing, names, tally, without  # noqa: E402
 
-WORD = re.compile(r"(\.?)(\[\]|[^\s(){}\[\],;.⌜⌝]+)")
+WORD = re.compile(r"(\.?)(\[\]|[^\s(){}\[\],;.]+)")
 FIELD = re.compile(r"(?<=[{;])\s*[^\s={}();]+\s*=(?=\s)")  # record { field = .. }
 SIGNATURE = re.compile(r"(?:(?:abbrev|unfoldable|pub)\s+)*([^\s(){}:]+)(?:\s+\{[^}]*\})*\s*:(?=\s)")
 DECLARED = re.compile(r"(?:pub\s+)?(?:record|data|ruleset)\s+(\S+)")
 USE = re.compile(r"^(?:pub |ghost )*use\s+([^\s{;]+?)(?:\.\{([^}]*)\}|\s+as\s+(\S+?))?;?\s*$", re.M)
-RUST_USE = re.compile(r"^\s*(?:pub )?use\s+((?:\w+::)*)(\w+)(?:\s+as\s+(\w+))?;", re.M)
+RUST_USE = re.compile(r"^\s*(?:pub )?use\s+((?:\w+::)*)(?:\{([^}]*)\}|(\w+(?:\s+as\s+\w+)?));", re.M)
+CLAUSE = r"(?:requires|ensures|measure|invariant)\*?(?:\s+\w+)?\s*"
 RUST_NAME = re.compile(r"\b(?:fn|struct|enum|const)\s+(\w+)")
 # a function that takes nothing and answers a constant is there for its contract: it ties the constant to its definition
-TIE = re.compile(r"^fn \w+\(\) -> \w+\s+ensures\s*\{[^{}]*\}\s*\{\s*\w+::[A-Z_]+\s*\}$")
+TIE = re.compile(r"^fn \w+\(\) -> \w+\s+ensures(?:\s+\w+)?\s*\{[^{}]*\}\s*\{\s*\w+::[A-Z_]+\s*\}$")
 IMPL = re.compile(r"^impl\b(?:<[^>]*>)?\s+(\w+)[^{]*\{", re.M)
 
 
 def words(text):
-    """The words of an antt text and those behind an alias, `alias.word`; a projection, ` .field`, is none."""
+    """The words of an antt text and those behind an alias, `alias.word`; a projection, `r.field`, is none."""
     plain, behind = set(), set()
     text = FIELD.sub("", text)
     for m in WORD.finditer(text):
@@ -50,8 +51,8 @@ def words(text):
 
 
 def has(plain, name):
-    """The words have the name; of an operator, `_when_`, each part."""
-    return name in plain or ("_" in name and all(part in plain for part in name.split("_") if part))
+    """The words have the name; of an operator, `◌when◌`, each part."""
+    return name in plain or ("◌" in name and all(part in plain for part in name.split("◌") if part))
 
 
 class File:
@@ -61,7 +62,7 @@ class File:
         self.tree, self.path = tree, path
         self.crate, self.part = path.split("/")[1:3]
         text = (tree.top / path).read_text(encoding="utf8")
-        self.names, self.fields, self.imports, self.aliases, self.roots = {}, {}, {}, {}, set()
+        self.names, self.fields, self.imports, self.aliases, self.roots, self.goals = {}, {}, {}, {}, set(), set()
         if path.endswith(".rt"):
             self.read_rattle(without(RATTLE_SKIP, text))
         else:
@@ -73,6 +74,8 @@ class File:
         for m in USE.finditer(text):
             if m.group(3):
                 self.aliases[m.group(3)] = self.tree.module(m.group(1))
+                if m.group(1).endswith((".Goals", ".Given")):
+                    self.goals.add(m.group(3))
             for item in filter(None, map(str.strip, (m.group(2) or "").split(","))):
                 name, _, local = item.partition(" as ")
                 self.imports[local.strip() or name] = self.tree.target(m.group(1), name)
@@ -100,7 +103,7 @@ class File:
                 name = begins.group(1)
                 records |= {name} if DECLARED.match(line) else set()
                 self.names[name] = self.names.get(name, "") + bodies[-1][1] + " " + line
-                if self.path.endswith("/Proof.antt") and name.endswith("-spec"):
+                if self.is_root(name, line):
                     self.roots.add(name)
             elif name:
                 field = SIGNATURE.match(line) if name in records else None
@@ -108,12 +111,21 @@ class File:
                     self.fields.setdefault(field.group(1), name)
                 self.names[name] += "\n" + (line[field.end():] if field else line)
 
+    def is_root(self, name, line):
+        """Whether a declaration is what the check asks of a function's proof."""
+        if self.path.endswith("/Proof.antt"):
+            return name.endswith("-spec")
+        asked = re.search(r":\s+([^\s(){}.]+)\.", line)
+        return bool(asked) and asked.group(1) in self.goals
+
     # Rattle
 
     def read_rattle(self, text):
         text = self.take_ghosts(text)
         for m in RUST_USE.finditer(text):
-            self.imports[m.group(3) or m.group(2)] = self.tree.rust_target(self, m.group(1).split("::")[:-1], m.group(2))
+            for item in filter(None, map(str.strip, (m.group(2) or m.group(3)).split(","))):
+                name, _, local = item.partition(" as ")
+                self.imports[local.strip() or name] = self.tree.rust_target(self, m.group(1).split("::")[:-1], name)
         text = without(RUST_USE, text)
         impls = [(m.group(1), m.end() - 1, closing(text, m.end() - 1)) for m in IMPL.finditer(text)]
         for m in RUST_NAME.finditer(text):
@@ -137,7 +149,7 @@ class File:
             elif text[at] == ";":
                 return at
             elif text[at] == "{":
-                clause = re.search(r"\b(?:requires|ensures|measure|invariant)\s*$", text[:at])
+                clause = re.search(rf"\b{CLAUSE}$", text[:at])
                 at = closing(text, at)
                 if not clause:
                     return at
@@ -186,13 +198,13 @@ class Tree:
 
     def module(self, path):
         """The file of an antt module, or None where it is not ours or made by the check."""
-        m = re.fullmatch(r"Rattle·(\w+)(?:·\w+)?\.(specs|proofs)\.(.+)", path)
+        m = re.fullmatch(r"Rattle\.(\w+)\.(specs|proofs)\.(.+)", path)
         file = m and f"crates/{m.group(1)}/{m.group(2)}/{m.group(3).replace('.', '/')}.antt"
         return file if file in self.paths else None
 
     def target(self, path, name):
         """What `use path.{name}` means: a name of a file of antt, or a declared type of src/."""
-        declared = re.fullmatch(r"Rattle·(\w+)(?:·\w+)?\.specs\.declared\.((?:\w+\.)*)(\w+?)(?:\.the-variants)?", path)
+        declared = re.fullmatch(r"Rattle\.(\w+)\.specs\.declared\.((?:\w+\.)*?)(\w+)(?:\.TheVariants)?", path)
         if declared:
             crate, modules, kind = declared.groups()
             return self.rust_file(crate, modules.split(".")[:-1]), kind
@@ -252,12 +264,13 @@ class Tree:
     def unused_crates(self):
         """Each crate with one that it lists and does not name."""
         for line in (self.top / "crates.txt").read_text(encoding="utf8").splitlines():
-            crate, _, below = line.partition("#")[0].partition(":")
-            sources = [path for path in self.paths if path.startswith(f"crates/{crate.strip()}/")]
+            said, _, below = line.partition("#")[0].partition(":")
+            crate = (said.split() or [""])[0]
+            sources = [path for path in self.paths if path.startswith(f"crates/{crate}/")]
             text = "\n".join((self.top / path).read_text(encoding="utf8") for path in sources)
             for name in below.split():
-                if not re.search(rf"Rattle·{name}\.|\b{name}::", text):
-                    yield crate.strip(), name
+                if not re.search(rf"Rattle\.{name}\.|\b{name}::", text):
+                    yield crate, name
 
     def live(self):
         waiting = [(path, name) for path, file in self.files.items() for name in file.roots] + list(self.pages())
@@ -293,7 +306,7 @@ def without_import(text, local):
         left = [item for item in items if item.split(" as ")[-1].strip() != local]
         return f"{m.group(1)}{{{', '.join(left)}}}{m.group(3)}" if left else ""
 
-    text = re.sub(r"^((?:ghost )?use [^\s{]+\.)\{([^}]*)\}(;?\n)", shorter, text, flags=re.M)
+    text = re.sub(r"^((?:ghost |pub )?use [^\s{]+(?:\.|::))\{([^}]*)\}(;?\n)", shorter, text, flags=re.M)
     text = re.sub(rf"^use \S+ as {re.escape(local)}\n", "", text, flags=re.M)
     return re.sub(rf"^use (?:\w+::)+(?:{re.escape(local)}|\w+ as {re.escape(local)});\n", "", text, flags=re.M)
 
@@ -311,7 +324,7 @@ def drop_imports(top):
 
 # A made-up tree, and the findings in it.
 SAMPLE = {
-    "crates.txt": "# ground\na:\nb: a c\n",
+    "crates.txt": "# ground\na staticlib:\nb: a c\n",
     "README.md": "`crates/a/specs/Cited.antt: cited`\n",
     "docs/PROMISES.md": """`crates/a/proofs/Laws.antt: law`, `crates/a/src/lib.rt: T::cited`, `crates/a/specs/Cited.antt: sentence`
 
@@ -323,9 +336,9 @@ quoted : ℕ
     "docs/landings/0001.md": "`crates/a/specs/Cited.antt: landed`\n",
     "crates/a/specs/Cited.antt": "pub cited : ℕ\ncited = 1\n\nquoted : ℕ\nquoted = 2\n\npub landed : ℕ\nlanded = 3\n\npub record Demand : Type 0 where\n  sentence : ℕ\n",
     "crates/a/specs/Defs.antt": """-- said here
-use mathlib.Core.List.{List, [], _∷_}
-use mathlib.Core.Bool.{Bool, true}
-use Rattle·a·specs.specs.declared.T.{T}
+use Rattle.std.specs.Prelude.{ℕ, List, [], ◌∷◌}
+use Rattle.std.specs.Prelude.{Bool, true}
+use Rattle.a.specs.declared.T.{T}
 pub used : List ℕ → ℕ
 used [] = 0
 used (x ∷ xs) = used xs
@@ -337,20 +350,20 @@ itself n = itself n
 pub record Held : Type 0 where
   field : ℕ
   said : ℕ
-pub _when_ : ℕ → Bool → ℕ
+pub ◌when◌ : ℕ → Bool → ℕ
 (n when b) = n
 pub data Kind : Type 0 where
   one two : Kind
 """,
-    "crates/a/proofs/Laws.antt": """use Rattle·a·specs.specs.Defs.{used, _when_, Held, itself as own}
-use Rattle·a·proofs.proofs.More as more
-use Rattle·a·proofs.proofs.Fewer as fewer
+    "crates/a/proofs/Laws.antt": """use Rattle.a.specs.Defs.{used, ◌when◌, Held, itself as own}
+use Rattle.a.proofs.More as more
+use Rattle.a.proofs.Fewer as fewer
 module _ (h : Held)
     (n : ℕ) where
   helper : ℕ
   helper = n
   pub law : used [] ≡ more.needed
-  law = helper when (h .said)
+  law = helper when h.said
   pub loose : ℕ
   loose = other
 other : ℕ
@@ -360,8 +373,25 @@ first = second
 second : ℕ
 second = first
 """,
-    "crates/a/proofs/More.antt": "pub needed : ℕ\nneeded = 1\n\npub spare : ℕ\nspare = 1\n",
-    "crates/a/proofs/f/Proof.antt": """use Rattle·a·proofs.proofs.More.{needed}
+    "crates/a/proofs/More.antt": "pub needed : ℕ\nneeded = 1\n\npub kept : ℕ → ℕ\nkept n = n\n\npub spare : ℕ\nspare = 1\n",
+    "crates/a/proofs/called/Answers.antt": """use Rattle.a.proofs.called.Goals as goal
+use Rattle.a.specs.Defs.{used}
+part : ℕ
+part = used []
+aside : ℕ
+aside = 1
+pub returns-of_T : goal.returns-of_T
+unfolding used
+returns-of_T c = part
+""",
+    "crates/a/proofs/called/Invariants.antt": """use Rattle.a.proofs.called.Given as given
+use Rattle.a.proofs.More.{kept}
+abbrev pub invariant-loop-i : given.invariant-loop-i
+invariant-loop-i l = kept l.i
+abbrev pub nowhere : goals.invariant-loop-j
+nowhere l = kept l.i
+""",
+    "crates/a/proofs/f/Proof.antt": """use Rattle.a.proofs.More.{needed}
 returns : ℕ
 returns = 1
 stray : ℕ
@@ -369,17 +399,16 @@ stray = 1
 pub f-spec : ℕ
 f-spec = returns
 """,
-    "crates/a/src/lib.rt": """ghost use Rattle·a·specs.specs.Defs.{used};
+    "crates/a/src/lib.rt": """ghost use Rattle.a.specs.Defs.{used};
 pub mod m;
-use super::m::g;
-use super::m::idle;
+use super::m::{g, idle};
 pub struct T { x: u8 }
 pub enum Lone { A, B }
 impl T {
     pub const SIZE: usize = 1;
     pub const LOOSE: usize = 2;
     pub fn size() -> usize
-        ensures { λ r. ⌜ r ≡ used ⌝ }
+        ensures { result ≡ used }
     {
         T::SIZE
     }
@@ -390,9 +419,10 @@ impl T {
 pub fn listed() -> usize { 1 }
 pub fn whole() -> usize { 1 }
 // fn said() {}
-#[no_mangle]
+#[unsafe(no_mangle)]
 pub extern "C" fn out(t: T) -> usize
-    ensures { λ r. ⌜ r ≡ used ⌝ }
+    ensures first { result ≡ used }
+    ensures second { result ≡ used }
 {
     g() + t.called()
 }
@@ -407,6 +437,8 @@ FOUND = [
     *(("crates/a/proofs/Laws.antt", f"reaches {name}") for name in ("loose", "other", "first", "second")),
     ("crates/a/proofs/More.antt", "reaches spare"),
     ("crates/a/proofs/f/Proof.antt", "reaches stray"),
+    ("crates/a/proofs/called/Answers.antt", "reaches aside"),
+    ("crates/a/proofs/called/Invariants.antt", "reaches nowhere"),
     *(("crates/a/src/lib.rt", f"reaches {name}") for name in ("Lone", "T::LOOSE", "T::uncalled", "listed")),
     ("crates/a/src/m.rt", "reaches idle"),
     ("crates/a/src/n.rt", "reaches Far::OFF"),

@@ -43,7 +43,7 @@ def results():
     yield "header: the release", found(r'^#define PERDIGOLH_VERSION "(.*)"$', HEADER), version
     yield "header: the release's number", found(r"^#define PERDIGOLH_VERSION_NUMBER (\d+)$", HEADER), number
     yield "crates/front: the release's number", found(r"impl Version \{\s*pub const NUMBER: u32 = (\d+);", "crates/front/src/version.rt"), number
-    said = found(r"^versionNumber = (.*)$", "crates/front/specs/Version.antt")
+    said = found(r"^version_number = (.*)$", "crates/front/specs/Version.antt")
     yield "crates/front: the definition", said, f"{major} * 1000000 + {minor} * 1000 + {patch}"
     yield "bindings: the release's number", found(r"^pub const VERSION_NUMBER: u32 = (\d+);$", LIBRARY), number
     for crate in RUST:
@@ -51,7 +51,7 @@ def results():
 
     interface = found(r"^#define PERDIGOLH_INTERFACE (\d+)$", HEADER)
     yield "crates/front: the interface", found(r"impl Interface \{\s*pub const NUMBER: u32 = (\d+);", "crates/front/src/version.rt"), interface
-    yield "crates/front: the definition of the interface", found(r"^interfaceNumber = (\d+)$", "crates/front/specs/Version.antt"), interface
+    yield "crates/front: the definition of the interface", found(r"^interface_number = (\d+)$", "crates/front/specs/Version.antt"), interface
     yield "bindings: the interface", found(r"^pub const INTERFACE: u32 = (\d+);$", LIBRARY), interface
     for path in ("crates/front/src/lib.rt", HEADER, LIBRARY, "bindings/rust/src/raw.rs"):
         yield f"{path}: the name asked for", set(re.findall(r"\bperdigolh_interface_(\d+)", read(path))), {interface}

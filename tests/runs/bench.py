@@ -6,7 +6,7 @@ from pathlib import Path
 
 TOP = Path(__file__).resolve().parents[2]
 STEPS = [
-    ("the digest's archive", ["rt", "staticlib", "digest"]),
+    ("the archives", ["tools/archives"]),
     ("the bench compiles", ["cargo", "build", "--release", "--offline", "--manifest-path", "bench/Cargo.toml", "--target-dir", "target/bench"]),
     ("bench/run reads its words", [sys.executable, "-c", "import ast, sys; ast.parse(open('bench/run', encoding='utf8').read())"]),
 ]

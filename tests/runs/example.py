@@ -44,7 +44,7 @@ def grant(number):
 def by_the_page():
     """The page's own commands, in the order that it has them. The gate has made the archive."""
     said = commands()
-    yield "the page has the archive, the example and the Rust example", [line.split()[0] for line in said] == ["rt", "cc", "target/front-example", "cargo"]
+    yield "the page has the archive, the example and the Rust example", [line.split()[0] for line in said] == ["tools/archives", "cc", "target/front-example", "cargo"]
     yield said[1], run("sh", "-c", said[1]).returncode == 0
     Path(TOP, said[2].split()[1]).unlink(missing_ok=True)
     first = run("sh", "-c", said[2])

@@ -20,7 +20,7 @@ TALLY = re.compile(r"^(\d+) passed, (\d+) failed$|^test result: \w+\. (\d+) pass
 
 def line_program():
     listed = re.search(r"^perdigolh\s*:", (TOP / "crates.txt").read_text(encoding="utf8"), re.M)
-    return "target/bin/perdigolh" if listed else "target/second/release/second"
+    return "crates/perdigolh/out/perdigolh" if listed else "target/second/release/second"
 
 
 def cargo(*words, package, folder):

@@ -3,7 +3,7 @@ from read import fields, limit, writes
 from sheet import AMBER, BLUE, GREEN, GREY, SOFT, WHITE, Sheet, width_of, wrapped
 
 LEFT, CELL, ROW, ACROSS = 70, 33, 62, 32
-HEADS = {"clock": "clock", "next": "next grant number", "headRest": "zero"}
+HEADS = {"clock": "clock", "next": "next grant number", "head_rest": "zero"}
 
 
 ALONE = {"push": BLUE, "decide": AMBER, "token": GREEN}
@@ -45,12 +45,12 @@ def draw():
     head, record = fields()
     head = [(name, HEADS.get(name, name), a, b) for name, _, a, b in head]
     short = [(name, (words or name).split(",")[0].split(":")[0], a, b) for name, words, a, b in record]
-    size, top = limit("recordSize"), 200
+    size, top = limit("record_size"), 200
     sheet = Sheet(LEFT + ACROSS * CELL + 30, top + size // ACROSS * ROW + 130, "The bytes of a ledger",
                   "The head of 32 bytes and a record of 256, field by field, with the calls that write each field.")
-    sheet.words(LEFT, 34, f"The head: {limit('headSize')} bytes, once.", 13, bold=True)
-    row_of(sheet, 56, cut(head, 0, limit("headSize")), {"every accepted call": ["clock"], "start, push": ["next"]}, 0)
-    sheet.words(LEFT, 132, f"A record: {size} bytes; {limit('recordsLeast')} to {limit('recordsMost')} of them. Behind a field's bytes stand the calls that write it.", 13, bold=True)
+    sheet.words(LEFT, 34, f"The head: {limit('head_size')} bytes, once.", 13, bold=True)
+    row_of(sheet, 56, cut(head, 0, limit("head_size")), {"every accepted call": ["clock"], "start, push": ["next"]}, 0)
+    sheet.words(LEFT, 132, f"A record: {size} bytes; {limit('records_least')} to {limit('records_most')} of them. Behind a field's bytes stand the calls that write it.", 13, bold=True)
     written = writes()
     for row in range(size // ACROSS):
         y = top + row * ROW

@@ -26,18 +26,18 @@ def limit(name):
 
 def states():
     """The states and their numbers."""
-    return [(name, int(number)) for name, number in re.findall(r"^stateNumber (\w+) = (\d+)$", text_of("crates/ledger/specs/Fields.antt"), re.M)]
+    return [(name, int(number)) for name, number in re.findall(r"^state_number (\w+) = (\d+)$", text_of("crates/ledger/specs/Fields.antt"), re.M)]
 
 
 def spaced(name):
-    """redirectLength, RecordExpired: words."""
-    return re.sub(r"(?<=[a-z])([A-Z])", r" \1", name).lower()
+    """redirect_length, RecordExpired: words."""
+    return re.sub(r"(?<=[a-z])([A-Z])", r" \1", name).replace("_", " ").lower()
 
 
 def fields():
     """The fields of the head and of a record: name, document's words, first byte, byte behind the last."""
     head, record = found(r"(.*)-- ---- the fields of a record(.*)", text_of("crates/ledger/specs/Fields.antt"), "fields").groups()
-    return laid_out(head, limit("headSize")), laid_out(record, limit("recordSize"))
+    return laid_out(head, limit("head_size")), laid_out(record, limit("record_size"))
 
 
 def laid_out(text, size):
@@ -45,7 +45,7 @@ def laid_out(text, size):
     for places, words in re.findall(r'^-- ([\d. and]+?): "([^"]*)"', text, re.M):
         for place in places.split(" and "):
             quoted[int(place.split(".")[0])] = words
-    spans = [(name, quoted.get(int(a)), int(a), int(b)) for name, a, b in re.findall(r"^(\w+)Span = span (\d+) (\d+)$", text, re.M)]
+    spans = [(name, quoted.get(int(a)), int(a), int(b)) for name, a, b in re.findall(r"^(\w+)_span = span (\d+) (\d+)$", text, re.M)]
     spans.sort(key=lambda span: span[2])
     if [a for _, _, a, _ in spans] != [0, *(b for *_, b in spans[:-1])] or spans[-1][3] != size:
         raise SystemExit("pictures: the fields do not fill their bytes one after the other")
@@ -55,26 +55,26 @@ def laid_out(text, size):
 def writes():
     """The fields that each call writes to its record: {call: [field]}."""
     text = text_of("crates/ledger/specs/Write.antt")
-    return {call: [name[0].lower() + name[1:] for name in reversed(re.findall(r"\bwith(\w+)", found(rf"^{name} .*?=\n?(.*?)(?:\n\n|\Z)", text, name).group(1)))]
+    return {call: [name for name in reversed(re.findall(r"\bwith_(\w+)", found(rf"^{name} .*?=\n?(.*?)(?:\n\n|\Z)", text, name).group(1)))]
             for name, call in WRITERS.items()}
 
 
 def numbers():
     """The table's number of each refusal."""
-    return {name: int(number) for name, number in re.findall(r"^numberOf (\w+) = (\d+)$", text_of("crates/desk/specs/Answers.antt"), re.M)}
+    return {name: int(number) for name, number in re.findall(r"^number_of (\w+) = (\d+)$", text_of("crates/desk/specs/Answers.antt"), re.M)}
 
 
 def checks(call):
     """The numbers of a call's checks, in their order."""
     begins = found(r"^begins .*?=(.*)$", text_of("crates/desk/specs/Checks.antt"), "begins").group(1)
-    own = found(rf"^{call}Checks [^=]*=\n(.*?)(?:\n\n|\Z)", text_of(f"crates/desk/specs/{call.capitalize()}.antt"), call).group(1)
+    own = found(rf"^{call}_checks [^=]*=\n(.*?)(?:\n\n|\Z)", text_of(f"crates/desk/specs/{call.capitalize()}.antt"), call).group(1)
     order = re.findall(r"\(?(\w+)\s+when\b", begins) + re.findall(r"(\w+)\s+when\b", own)
     return [numbers()[name] for name in order]
 
 
 def crates():
     """The crates and what they name: {crate: [crate]}."""
-    listed = re.findall(r"^(\w+)[ \t]*:[ \t]*(.*?)[ \t]*(?:#.*)?$", text_of("crates.txt"), re.M)
+    listed = re.findall(r"^(\w+)[^#:\n]*:[ \t]*(.*?)[ \t]*(?:#.*)?$", text_of("crates.txt"), re.M)
     return {name: deps.split() for name, deps in listed}
 
 

@@ -4,7 +4,7 @@ from sheet import AMBER, BLUE, GREEN, GREY, LINE, SOFT, WHITE, Sheet, wrapped
 
 LEFT, WIDE, GAP, TOP, TALL = 30, 190, 130, 190, 92
 FILLS = [GREY, BLUE, AMBER, GREEN]
-NAMED = {"redirectLength": "redirect length", "grant": "grant number", "client": "client id", "boundKey": "bound key"}
+NAMED = {"redirect_length": "redirect length", "grant": "grant number", "client": "client id", "bound_key": "bound key"}
 
 
 def middle(place):
@@ -35,9 +35,9 @@ def draw():
         sheet.words(middle(place), TOP + 32, f"{number}  {name.lower()}", 16, bold=True, anchor="middle")
         sheet.lines(middle(place), TOP + 54, wrapped(inside[name], 11, WIDE - 12), 11, anchor="middle", fill=SOFT)
     written = {call: "writes " + ", ".join(NAMED.get(name, name) for name in fields) for call, fields in writes().items()}
-    ways = [("push", ["the first free record", f"expiry = now + {limit('referenceLifetime')}, or what the client's record says, {limit('lifetimeMost')} at most", written["push"]]),
-            ("decide", ["yes, of this reference and client id", f"expiry = now + {limit('codeLifetime')}", written["decide"]]),
-            ("token", ["this code, client id and secret", f"expiry = now + {limit('tokenLifetime')}", written["token"]])]
+    ways = [("push", ["the first free record", f"expiry = now + {limit('reference_lifetime')}, or what the client's record says, {limit('lifetime_most')} at most", written["push"]]),
+            ("decide", ["yes, of this reference and client id", f"expiry = now + {limit('code_lifetime')}", written["decide"]]),
+            ("token", ["this code, client id and secret", f"expiry = now + {limit('token_lifetime')}", written["token"]])]
     for place, (call, lines) in enumerate(ways):
         x = LEFT + (place + 1) * (WIDE + GAP) - GAP // 2
         below = card(sheet, x, call, lines)

@@ -10,7 +10,7 @@ HEAD, BAND = 118, 204
 
 def bands():
     """Each step: its name; its arrows as lane, lane, words; what program and desk hold afterwards."""
-    reference, most, code, token = limit("referenceLifetime"), limit("lifetimeMost"), limit("codeLifetime"), limit("tokenLifetime")
+    reference, most, code, token = limit("reference_lifetime"), limit("lifetime_most"), limit("code_lifetime"), limit("token_lifetime")
     yield ("1  push", [(0, 1, "request, hash of the secret"), (1, 3, "push: client id, key it has verified, scope, challenge, redirect, fresh value"),
                        (3, 1, "done; the fresh value is the reference"), (1, 0, "reference")],
            "secret, reference", f"state 1: client, scope, challenge, reference; expires at now + {reference}, or what its client's record says, {most} at most")

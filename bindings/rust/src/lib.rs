@@ -1,4 +1,4 @@
-//! The permissions desk's calls for a web front, six and two that only read, over the archive that `rt staticlib front` writes.
+//! The permissions desk's calls for a web front, six and two that only read, over the archive that `tools/archives` writes.
 //!
 //! The ledger is lent: a [`Ledger`] borrows its bytes for as long as it writes to them, so that one ledger has one writer.
 //! Every call checks for itself what it reads, and ends with an answer or a [`Refusal`]. A refusal has changed nothing, but

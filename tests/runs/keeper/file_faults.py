@@ -11,7 +11,7 @@ from disk import Disk
 from workers import BUILT, TOP, Place, ended, failures, words
 
 REPLAY = BUILT / "release/replay"
-LINE_PROGRAM = TOP / "target/bin/perdigolh"
+LINE_PROGRAM = TOP / "crates/perdigolh/out/perdigolh"
 
 
 class Files:
