@@ -1,7 +1,6 @@
-use Rattle.std.proofs.Common.{arith, length, ◌+◌, ◌≤◌}
+use Rattle.std.proofs.Common.{arith}
 use Rattle.desk.proofs.Written.{consent_written}
 use Rattle.ledger.proofs.Records.{lent_within}
-use Rattle.ledger.specs.Limits.{record_size}
 use Rattle.decide.proofs.consent_at.Goals as goal
 
 pub overflow_add-a : goal.overflow_add-a

@@ -1,6 +1,5 @@
 use Rattle.std.proofs.Common.{arith, refl, rules, sym, ◌∙◌}
 use Rattle.ledger.proofs.Loops.{some_rec_hit, some_rec_miss, some_rec_end}
-use Rattle.ledger.specs.Sound.{holds}
 use Rattle.finding.proofs.pool.has.Goals as goal
 
 pub loop-k-init : goal.loop-k-init

@@ -1,6 +1,6 @@
-use Rattle.std.proofs.Common.{arith, sym, true, ◌∙◌, ◌≡◌}
+use Rattle.std.proofs.Common.{arith, sym, ◌∙◌}
 use Rattle.lines.proofs.Going.{unfitting, unbegun, roomless, finished}
-use Rattle.lines.specs.Turn.{held, fits}
+use Rattle.lines.specs.Turn.{held}
 use Rattle.lines.proofs.feed.finish.Goals as goal
 
 pub returns-then-not-fits : goal.returns-then-not-fits

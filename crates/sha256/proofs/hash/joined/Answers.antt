@@ -1,6 +1,6 @@
 use Rattle.std.proofs.Common.{arith, refl, rules, ◌∙◌}
 use Rattle.octets.proofs.Tabulate.{filled_none, filled_more, filled_all}
-use Rattle.sha256.proofs.Digests.{byte_of, joined_table}
+use Rattle.sha256.proofs.Digests.{joined_table}
 use Rattle.sha256.proofs.hash.joined.Goals as goal
 
 pub loop-i-init : goal.loop-i-init

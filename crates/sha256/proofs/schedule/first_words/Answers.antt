@@ -1,6 +1,5 @@
 use Rattle.std.proofs.Common.{arith, refl, rules, ◌≡◌}
 use Rattle.octets.proofs.Tabulate.{filled_none, filled_more}
-use Rattle.sha256.specs.Pad.{word_at}
 use Rattle.sha256.proofs.schedule.first_words.Goals as goal
 
 pub loop-t-init : goal.loop-t-init

@@ -1,4 +1,4 @@
-use Rattle.std.proofs.Common.{ap, arith, drop, false, not, refl, rules, sym, ℕ, ◌∙◌}
+use Rattle.std.proofs.Common.{ap, arith, drop, not, refl, rules, sym, ℕ, ◌∙◌}
 use Rattle.ledger.proofs.Loops.{some_rec_hit, some_rec_miss, some_rec_end, apart_rec_hit, apart_rec_miss, apart_rec_end}
 use Rattle.soundness.proofs.ShortCuts.{row_start, idle_none}
 use Rattle.ledger.specs.Fields.{rec, records}
