@@ -1,6 +1,8 @@
 -- Laws of a chunk that is passed on, call after call.
-use Rattle.std.proofs.Common.{◌≡◌, ℕ, zero, suc, ◌+◌, ◌-◌, ◌%◌, ◌^◌, ◌<◌, ◌≤◌, List, [], ◌∷◌, length, take, drop, sym, refl, ap, ◌∙◌, arith, length-append, length-drop, drop_of_length-le, length-take-le, take_all, drop-drop}
+use Rattle.std.proofs.Common.{◌≡◌, ℕ, zero, suc, ◌+◌, ◌-◌, ◌%◌, ◌^◌, ◌<◌, ◌≤◌, List, [], ◌∷◌, length, take, drop, sym, refl, ap, ◌∙◌, arith, length-append, length-drop, drop_of_length-le, length-take-le, take_all, drop-drop, ◌++◌, append_assoc, append-nil, Option, subst}
+use Rattle.std.specs.Io.KnownBytes.{Appends}
 use Rattle.lines.specs.Turn.{Held}
+use Rattle.perdigolh.proofs.Bytes.{appends_same, appends_more}
 use Rattle.lines.specs.Feed.{Left, left, feed}
 use Rattle.lines.specs.Run.{Passed, passed, behind, puts, pass_on}
 
@@ -78,3 +80,59 @@ pub fronted : (l : Left) (f : ℕ) (o : List ℕ) → f ≤ length o → {h : He
 fronted l f o k {h} {t} {n} e c =
     let d : n ≡ f = c ∙ length-take-le f o k in
     (ap (λ (x : ℕ). left h t x o) d ∙ e, omega arith)
+
+-- where the front was written, what the definition puts out was written
+pub front_written : (l : Left) {h : Held} {t f : ℕ} {o : List ℕ} → left h t f o ≡ l → (a b : Option (List ℕ)) → Appends a b (take f o) → Appends a b (puts l)
+front_written l e a b w = let P : Left → Type 0 = λ x. Appends a b (puts x) in subst P e w
+
+-- ---- what a writer holds of it
+
+-- what was written so far, with the n calls that are left, is all that p writes
+pub record Written (p : Passed) (n : ℕ) (h : Held) (out cs : List ℕ) (contents contents' : Option (List ℕ)) : Type 0 where
+  pub bytes : List ℕ
+  pub so_far : Appends contents contents' bytes
+  pub whole : p.written ≡ bytes ++ (pass_on n h out cs).written
+
+pub written_first : (n : ℕ) (h : Held) (out cs : List ℕ) (contents : Option (List ℕ)) → Written (pass_on n h out cs) n h out cs contents contents
+written_first n h out cs contents = record { bytes = []; so_far = appends_same contents; whole = refl }
+
+pub written_last : (p : Passed) (n : ℕ) (h : Held) (out cs : List ℕ) (a b : Option (List ℕ)) → Written p n h out cs a b → (pass_on n h out cs).written ≡ []
+    → Appends a b p.written
+written_last p n h out cs a b w e =
+    let d : p.written ≡ w.bytes = w.whole ∙ ap (λ (x : List ℕ). w.bytes ++ x) e ∙ append-nil w.bytes in
+    let P : List ℕ → Type 0 = λ x. Appends a b x in
+    subst P (sym d) w.so_far
+
+module _ (p : Passed) (h : Held) (out chunk : List ℕ) (at : ℕ) (a b : Option (List ℕ)) where
+  pub written_on : (n : ℕ) → 0 < n → at < length chunk → Written p n h out (drop at chunk) a b → (c : Option (List ℕ)) → {k : Held} {t f : ℕ} {o : List ℕ}
+      → left k t f o ≡ feed h (take (length chunk - at) (drop at chunk)) out
+      → Appends b c (puts (feed h (take (length chunk - at) (drop at chunk)) out))
+      → Written p (n - 1) k o (drop (at + t) chunk) a c
+  written_on zero z l w c e u = absurd (omega arith)
+  written_on (suc n) z l w c {k} {t} {f} {o} e u =
+      let cs = drop at chunk in
+      let x : take (length chunk - at) cs ≡ cs = take_all (length chunk - at) cs (omega (arith, length-drop at chunk)) in
+      let g : left k t f o ≡ feed h cs out = e ∙ ap (λ (x : List ℕ). feed h x out) x in
+      let i : 0 < length cs = omega (arith, length-drop at chunk) in
+      let d : k ≡ (feed h cs out).held = ap (λ (x : Left). x.held) g in
+      let r : t ≡ (feed h cs out).taken = ap (λ (x : Left). x.taken) g in
+      let j : o ≡ (feed h cs out).out = ap (λ (x : Left). x.out) g in
+      let q : pass_on n (feed h cs out).held (feed h cs out).out (drop (feed h cs out).taken cs) ≡ pass_on n k o (drop (at + t) chunk) =
+      rw (← d, ← j, ← r, drop-drop t at chunk) in
+      let v : suc n - 1 ≡ n = omega arith in
+      let P : List ℕ → Type 0 = λ y. Appends b c (puts (feed h y out)) in
+      rw v (record {
+        bytes = w.bytes ++ puts (feed h cs out);
+        so_far = appends_more a b c w.bytes (puts (feed h cs out)) w.so_far (subst P x u);
+        whole = w.whole ∙ ap (λ (x : Passed). w.bytes ++ x.written) (more n h out cs i) ∙ sym (append_assoc w.bytes (puts (feed h cs out)) _)
+            ∙ ap (λ (x : Passed). (w.bytes ++ puts (feed h cs out)) ++ x.written) q;
+      })
+
+  pub written_end : (n : ℕ) → length chunk ≤ at → Written p n h out (drop at chunk) a b → Appends a b p.written
+  written_end n l w =
+      written_last p n h out (drop at chunk) a b w (ap (λ (x : List ℕ). (pass_on n h out x).written) (drop_of_length-le chunk l) ∙ ap (λ (x : Passed). x.written) (none n h out))
+
+  pub written_out : (n : ℕ) → n ≤ 0 → Written p n h out (drop at chunk) a b → Appends a b p.written
+  unfolding pass_on
+  written_out zero l w = written_last p 0 h out (drop at chunk) a b w refl
+  written_out (suc n) l w = absurd (omega arith)

@@ -1,13 +1,15 @@
 -- Laws of the chunks that were read, one after the other, and of the end.
-use Rattle.std.proofs.Common.{◌≡◌, ℕ, ◌+◌, ◌%◌, ◌^◌, ◌≤◌, Bool, true, false, List, [], ◌∷◌, ◌++◌, length, take, sym, refl, ap, ◌∙◌, append_assoc, append-nil, arith, length-append, length-take-le}
-use mathlib.Core.Bool.{false≢true}
+use Rattle.std.proofs.Common.{◌≡◌, ℕ, ◌+◌, ◌%◌, ◌^◌, ◌≤◌, Bool, true, false, List, [], ◌∷◌, ◌++◌, length, take, sym, refl, ap, ◌∙◌, append_assoc, append-nil, arith, length-append, length-take-le, Option, None, Some, IfSome, subst}
+use Rattle.std.proofs.lemmas.Bool.{false≢true}
+use Rattle.std.specs.Io.KnownBytes.{Appends, Consumes, IsAtEnd}
 use Rattle.lines.specs.Turn.{Held, held, lengths}
 use Rattle.lines.specs.Feed.{Left, left, finish}
 use Rattle.lines.specs.Lines.{run}
 use Rattle.lines.specs.Run.{Passed, puts, pass_on, pass_all, session, joined, Buffers}
 use Rattle.lines.proofs.Whole.{whole_run}
 use Rattle.lines.specs.declared.feed.State.{State}
-use Rattle.perdigolh.specs.Chunk.{LeavesAs, EndsAs, RunsAs}
+use Rattle.perdigolh.specs.Chunk.{LeavesAs, EndsAs, RunsAs, RunsOn}
+use Rattle.perdigolh.proofs.Bytes.{appends_same, appends_more, consumes_same, consumes_more}
 
 -- ---- one read
 
@@ -16,6 +18,15 @@ pub read_none : (s : State) (line ledger table out input : List ℕ) {n : ℕ} (
     → LeavesAs (pass_on (length (take n input)) (held s line ledger table) out (take n input)) more (held k line ledger table) out handed
 unfolding pass_on
 read_none s line ledger table out input more z e c = rw z (λ t. (ap (λ (x : State). held x line ledger table) e, refl, c))
+
+-- and writes nothing
+pub none_written : (h : Held) (out input : List ℕ) {n : ℕ} → n ≡ 0 → (contents : Option (List ℕ))
+    → Appends contents contents (pass_on (length (take n input)) h out (take n input)).written
+unfolding pass_on
+none_written h out input z contents = rw z (appends_same contents)
+
+pub none_read : (unread unread' : Option (List ℕ)) (input : List ℕ) {n : ℕ} → n ≡ 0 → Consumes unread unread' (take n input) → Consumes unread unread' []
+none_read unread unread' input z c = rw z at c
 
 -- the chunk that was passed on is as long as was said
 pub read_some : (h : Held) (out input : List ℕ) (n : ℕ) → n ≤ length input → {got : ℕ} (more : Bool) {k : Held} {o : List ℕ} {handed : ℕ}
@@ -36,17 +47,27 @@ ends l {h} {t} {f} {out} ended e k =
 
 -- ---- read after read
 
--- what is kept is what the chunks so far leave
-pub record Sofar (first : Held) (out₀ : List ℕ) (h : Held) (out : List ℕ) (handed : ℕ) : Type 0 where
+-- what is kept is what the chunks so far leave; they are what was read, and what they are answered was written
+pub record Sofar (first : Held) (out₀ : List ℕ) (h : Held) (out : List ℕ) (handed : ℕ) (unread unread' contents contents' : Option (List ℕ)) : Type 0 where
   pub chunks : List (List ℕ)
   pub held : h ≡ (pass_all first out₀ chunks).held
   pub out' : out ≡ (pass_all first out₀ chunks).out
   pub count : handed ≡ length (pass_all first out₀ chunks).written % 2 ^ 64
+  pub reads : Consumes unread unread' (joined chunks)
+  pub writes : Appends contents contents' (pass_all first out₀ chunks).written
 
-pub sofar_none : (line ledger table out : List ℕ) {s : State} → s ≡ lengths 0 0 0
-    → Sofar (held (lengths 0 0 0) line ledger table) out (held s line ledger table) out 0
+pub sofar_none : (line ledger table out : List ℕ) {s : State} → s ≡ lengths 0 0 0 → (unread contents : Option (List ℕ))
+    → Sofar (held (lengths 0 0 0) line ledger table) out (held s line ledger table) out 0 unread unread contents contents
 unfolding pass_all
-sofar_none line ledger table out e = record { chunks = []; held = ap (λ (x : State). held x line ledger table) e; out' = refl; count = refl }
+sofar_none line ledger table out e unread contents =
+    record {
+      chunks = [];
+      held = ap (λ (x : State). held x line ledger table) e;
+      out' = refl;
+      count = refl;
+      reads = consumes_same unread;
+      writes = appends_same contents;
+    }
 
 one_more : (h : Held) (out : List ℕ) (cs : List (List ℕ)) (c : List ℕ)
     → ((pass_all h out (cs ++ (c ∷ []))).held ≡ (pass_on (length c) (pass_all h out cs).held (pass_all h out cs).out c).held)
@@ -64,48 +85,85 @@ one_more h out (d ∷ ds) c =
       ap (λ (x : List ℕ). p.written ++ x) i.2 ∙ sym (append_assoc p.written q.written (pass_on (length c) q.held q.out c).written),
     )
 
-module _ (first : Held) (out₀ : List ℕ) (h : Held) (out : List ℕ) (handed : ℕ) where
-  pub sofar_more : Sofar first out₀ h out handed → (c : List ℕ) {more : Bool} → more ≡ true → {k : Held} {o : List ℕ} {n m : ℕ}
-      → LeavesAs (pass_on (length c) h out c) more k o n → m ≡ (handed + n) % 2 ^ 64 → Sofar first out₀ k o m
-  sofar_more s c t {k} {o} {n} {m} w u =
+joined_more : (cs : List (List ℕ)) (c : List ℕ) → joined (cs ++ (c ∷ [])) ≡ joined cs ++ c
+joined_more [] c = append-nil c
+joined_more (d ∷ ds) c = ap (λ (x : List ℕ). d ++ x) (joined_more ds c) ∙ sym (append_assoc d (joined ds) c)
+
+module _ (first : Held) (out₀ : List ℕ) (h : Held) (out : List ℕ) (handed : ℕ) (r r' w w' : Option (List ℕ)) where
+  pub sofar_more : Sofar first out₀ h out handed r r' w w' → (c : List ℕ) {more : Bool} → more ≡ true → {k : Held} {o : List ℕ} {n m : ℕ}
+      → LeavesAs (pass_on (length c) h out c) more k o n → m ≡ (handed + n) % 2 ^ 64
+      → (r'' w'' : Option (List ℕ)) → Consumes r' r'' c → Appends w' w'' (pass_on (length c) h out c).written → Sofar first out₀ k o m r r'' w w''
+  sofar_more s c t {k} {o} {n} {m} l u r'' w'' x y =
       let a = pass_all first out₀ s.chunks in
       let i = one_more first out₀ s.chunks c in
-      let e = w t in
+      let e = l t in
       let p : pass_on (length c) h out c ≡ pass_on (length c) a.held a.out c =
       ap (λ (x : Held). pass_on (length c) x out c) s.held ∙ ap (λ (x : List ℕ). pass_on (length c) a.held x c) s.out' in
       let b : length (pass_on (length c) h out c).written ≡ length (pass_on (length c) a.held a.out c).written = ap (λ (x : Passed). length x.written) p in
       let d : length (pass_all first out₀ (s.chunks ++ (c ∷ []))).written ≡ length a.written + length (pass_on (length c) a.held a.out c).written =
       ap length i.2 ∙ length-append a.written _ in
+      let f : a.written ++ (pass_on (length c) h out c).written ≡ (pass_all first out₀ (s.chunks ++ (c ∷ []))).written =
+      ap (λ (x : Passed). a.written ++ x.written) p ∙ sym i.2 in
+      let C : List ℕ → Type 0 = λ v. Consumes r r'' v in
+      let A : List ℕ → Type 0 = λ v. Appends w w'' v in
       record {
         chunks = s.chunks ++ (c ∷ []);
         held = e.0 ∙ ap (λ (x : Passed). x.held) p ∙ sym i.0;
         out' = e.1 ∙ ap (λ (x : Passed). x.out) p ∙ sym i.1;
         count = omega (arith, s.count, e.2, b, d, u);
+        reads = subst C (sym (joined_more s.chunks c)) (consumes_more r r' r'' (joined s.chunks) c s.reads x);
+        writes = subst A f (appends_more w w' w'' a.written (pass_on (length c) h out c).written s.writes y);
       }
 
-  pub runs_end : Sofar first out₀ h out handed → (ended : Bool) {k : Held} {o : List ℕ} {n m : ℕ} → EndsAs (finish h out) ended k o n
-      → m ≡ (handed + n) % 2 ^ 64 → RunsAs first out₀ ended k o m
+  pub runs_end : Sofar first out₀ h out handed r r' w w' → (ended : Bool) {k : Held} {o : List ℕ} {n m : ℕ} → EndsAs (finish h out) ended k o n
+      → m ≡ (handed + n) % 2 ^ 64
+      → (r'' w'' : Option (List ℕ)) → (ended ≡ true → Consumes r' r'' []) → (ended ≡ true → Appends w' w'' (puts (finish h out)))
+      → RunsOn first out₀ ended k o m r r'' w w''
   unfolding session
-  runs_end s ended {k} {o} {n} {m} w u =
+  runs_end s ended {k} {o} {n} {m} l u r'' w'' x y =
       let a = pass_all first out₀ s.chunks in
       let p : finish h out ≡ finish a.held a.out =
       ap (λ (x : Held). finish x out) s.held ∙ ap (λ (x : List ℕ). finish a.held x) s.out' in
       let b : length (puts (finish h out)) ≡ length (puts (finish a.held a.out)) = ap (λ (x : Left). length (puts x)) p in
       let d : length (session first out₀ s.chunks) ≡ length a.written + length (puts (finish a.held a.out)) = length-append a.written _ in
+      let C : List ℕ → Type 0 = λ v. Consumes r r'' v in
+      let A : Left → Type 0 = λ v. Appends w w'' (a.written ++ puts v) in
       record {
-        chunks = s.chunks;
-        leaves = λ t. (
-          (w t).0 ∙ ap (λ (x : Left). x.held) p,
-          (w t).1 ∙ ap (λ (x : Left). x.out) p,
-          omega (arith, s.count, (w t).2, b, d, u),
-        );
+        runs = record {
+          chunks = s.chunks;
+          leaves = λ t. (
+            (l t).0 ∙ ap (λ (x : Left). x.held) p,
+            (l t).1 ∙ ap (λ (x : Left). x.out) p,
+            omega (arith, s.count, (l t).2, b, d, u),
+          );
+        };
+        reads = λ t. subst C (append-nil (joined s.chunks)) (consumes_more r r' r'' (joined s.chunks) [] s.reads (x t));
+        writes = λ t. subst A p (appends_more w w' w'' a.written (puts (finish h out)) s.writes (y t));
       }
 
 -- the turns are used up
-pub runs_out : (first : Held) (out₀ : List ℕ) (h : Held) (out : List ℕ) (handed : ℕ) → RunsAs first out₀ false h out handed
-runs_out first out₀ h out handed = record { chunks = []; leaves = λ t. absurd (false≢true t) }
+pub runs_out : (first : Held) (out₀ : List ℕ) (h : Held) (out : List ℕ) (handed : ℕ) (r r' w w' : Option (List ℕ)) → RunsOn first out₀ false h out handed r r' w w'
+runs_out first out₀ h out handed r r' w w' =
+    record {
+      runs = record { chunks = []; leaves = λ t. absurd (false≢true t) };
+      reads = λ t. absurd (false≢true t);
+      writes = λ t. absurd (false≢true t);
+    }
 
 -- in buffers of the right sizes, as many bytes were handed on as the run of the lines that were read has
 pub as_many : (line ledger table out : List ℕ) → Buffers line ledger table out → {h : Held} {o : List ℕ} {handed : ℕ}
     → (r : RunsAs (held (lengths 0 0 0) line ledger table) out true h o handed) → handed ≡ length (run (joined r.chunks)) % 2 ^ 64
 as_many line ledger table out b r = (r.leaves refl).2 ∙ ap (λ (x : List ℕ). length x % 2 ^ 64) (whole_run line ledger table out r.chunks b)
+
+-- what was read, to its end, is the chunks
+all_read : (xs : List ℕ) (r' : Option (List ℕ)) (cs : List ℕ) → Consumes (Some xs) r' cs → IsAtEnd r' → cs ≡ xs
+all_read xs None cs c e = absurd c
+all_read xs (Some ys) cs c e = sym (c ∙ ap (λ (v : List ℕ). cs ++ v) e ∙ append-nil cs)
+
+-- and what was written is the run of the lines of all that there was to read
+pub whole : (line ledger table out : List ℕ) → Buffers line ledger table out → {h : Held} {o : List ℕ} {handed : ℕ} → (r r' w w' : Option (List ℕ)) (ended : Bool)
+    → RunsOn (held (lengths 0 0 0) line ledger table) out ended h o handed r r' w w' → ended ≡ true → IsAtEnd r' → IfSome r (λ xs. Appends w w' (run xs))
+whole line ledger table out b None r' w w' ended s t e = tt
+whole line ledger table out b (Some xs) r' w w' ended s t e =
+    let A : List ℕ → Type 0 = λ v. Appends w w' v in
+    subst A (whole_run line ledger table out s.runs.chunks b ∙ ap run (all_read xs r' (joined s.runs.chunks) (s.reads t) e)) (s.writes t)

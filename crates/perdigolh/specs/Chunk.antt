@@ -1,8 +1,9 @@
 -- What a step of the line program leaves, and the whole of it. What each call of lines hands on to be written stands in the contracts of `pass` and `end`.
-use Rattle.std.specs.Prelude.{◌≡◌, ℕ, ◌%◌, ◌^◌, Bool, true, List, length}
+use Rattle.std.specs.Prelude.{◌≡◌, ℕ, ◌%◌, ◌^◌, Bool, true, List, length, Option}
+use Rattle.std.specs.Io.KnownBytes.{Appends, Consumes}
 use Rattle.lines.specs.Turn.{Held}
 use Rattle.lines.specs.Feed.{Left, finish}
-use Rattle.lines.specs.Run.{Passed, puts, pass_all, session}
+use Rattle.lines.specs.Run.{Passed, puts, pass_all, session, joined}
 
 -- a chunk that was passed on: where there may be more, what is kept, and the output's buffer, are what the definition of the run leaves, and as many bytes were
 -- handed on as it writes
@@ -21,3 +22,9 @@ pub record RunsAs (first : Held) (out₀ : List ℕ) (ended : Bool) (h : Held) (
       → (h ≡ (finish (pass_all first out₀ chunks).held (pass_all first out₀ chunks).out).held)
       × (out ≡ (finish (pass_all first out₀ chunks).held (pass_all first out₀ chunks).out).out)
       × (handed ≡ length (session first out₀ chunks) % 2 ^ 64)
+
+-- the same with what is known of the streams' bytes: what was read is one chunk after the other, and what was written is the session
+pub record RunsOn (first : Held) (out₀ : List ℕ) (ended : Bool) (h : Held) (out : List ℕ) (handed : ℕ) (unread unread' contents contents' : Option (List ℕ)) : Type 0 where
+  pub runs : RunsAs first out₀ ended h out handed
+  pub reads : ended ≡ true → Consumes unread unread' (joined runs.chunks)
+  pub writes : ended ≡ true → Appends contents contents' (session first out₀ runs.chunks)

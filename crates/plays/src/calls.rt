@@ -2,14 +2,15 @@
 use super::words::{begins, letters, number, rest, word};
 use super::{say, table};
 use octets::part::{cut, same};
+use std::io;
 
-fn start(line: &[u8], l: &mut [u8]) {
+fn start(rt: &impl Print, line: &[u8], l: &mut [u8]) -> io::Result<()> {
     let n = start::start(l);
-    say::number(line, n, l);
+    say::number(rt, line, n, l)
 }
 
 // how many clients the table has, client, key, scope, fresh value; challenge, redirect
-fn push(line: &[u8], l: &mut [u8], time: u64, w: [u8; 6]) {
+fn push(rt: &impl Print, line: &[u8], l: &mut [u8], time: u64, w: [u8; 6]) -> io::Result<()> {
     let t = table::five();
     let a = push::push(
         l,
@@ -22,11 +23,18 @@ fn push(line: &[u8], l: &mut [u8], time: u64, w: [u8; 6]) {
         rest(line, 8),
         &[w[4]; 32],
     );
-    say::answer(line, a, l);
+    say::answer(rt, line, a, l)
 }
 
 // reference, client, yes or no, holder, fresh value
-fn decide_into(line: &[u8], l: &mut [u8], time: u64, w: [u8; 6], out: &mut [u8]) {
+fn decide_into(
+    rt: &impl Print,
+    line: &[u8],
+    l: &mut [u8],
+    time: u64,
+    w: [u8; 6],
+    out: &mut [u8],
+) -> io::Result<()> {
     let d = decide::decide(
         l,
         time,
@@ -37,22 +45,21 @@ fn decide_into(line: &[u8], l: &mut [u8], time: u64, w: [u8; 6], out: &mut [u8])
         &[w[4]; 32],
         out,
     );
-    say::decided(line, d, out, l);
+    say::decided(rt, line, d, out, l)
 }
 
 // With room for 64 bytes and two more, or where the line ends in the word short for one byte less than 64.
-fn decide(line: &[u8], l: &mut [u8], time: u64, w: [u8; 6]) {
+fn decide(rt: &impl Print, line: &[u8], l: &mut [u8], time: u64, w: [u8; 6]) -> io::Result<()> {
     if same(word(line, 7), b"short") {
         let mut short = [b'.'; 63];
-        decide_into(line, l, time, w, &mut short);
-        return;
+        return decide_into(rt, line, l, time, w, &mut short);
     }
     let mut out = [b'.'; 66];
-    decide_into(line, l, time, w, &mut out);
+    decide_into(rt, line, l, time, w, &mut out)
 }
 
 // how many clients the table has, client, key, presented key, code, fresh value; verifier
-fn token(line: &[u8], l: &mut [u8], time: u64, w: [u8; 6]) {
+fn token(rt: &impl Print, line: &[u8], l: &mut [u8], time: u64, w: [u8; 6]) -> io::Result<()> {
     let t = table::five();
     let a = token::token(
         l,
@@ -65,18 +72,18 @@ fn token(line: &[u8], l: &mut [u8], time: u64, w: [u8; 6]) {
         rest(line, 8),
         &[w[5]; 32],
     );
-    say::answer(line, a, l);
+    say::answer(rt, line, a, l)
 }
 
 // token, presented key, scope, holder
-fn resource(line: &[u8], l: &mut [u8], time: u64, w: [u8; 6]) {
+fn resource(rt: &impl Print, line: &[u8], l: &mut [u8], time: u64, w: [u8; 6]) -> io::Result<()> {
     let a = resource::resource(l, time, &[w[0]; 32], &[w[1]; 32], w[2] as u32, w[3] as u64);
-    say::answer(line, a, l);
+    say::answer(rt, line, a, l)
 }
 
-fn sweep(line: &[u8], l: &mut [u8], time: u64) {
+fn sweep(rt: &impl Print, line: &[u8], l: &mut [u8], time: u64) -> io::Result<()> {
     let s = sweep::sweep(l, time);
-    say::swept(line, s, l);
+    say::swept(rt, line, s, l)
 }
 
 #[derive(Clone, Copy)]
@@ -118,18 +125,21 @@ fn named(line: &[u8]) -> Call {
 }
 
 // Behind the name a line has the time, and then what the call asks. `next` with a number sets the ledger's next number.
-pub fn play(line: &[u8], l: &mut [u8]) {
+pub fn play(rt: &impl Print, line: &[u8], l: &mut [u8]) -> io::Result<()> {
     let n = number(line, 1);
     let w = letters(line);
     let call = named(line);
     match call {
-        Call::Start => start(line, l),
-        Call::Push => push(line, l, n, w),
-        Call::Decide => decide(line, l, n, w),
-        Call::Token => token(line, l, n, w),
-        Call::Resource => resource(line, l, n, w),
-        Call::Sweep => sweep(line, l, n),
-        Call::Next => ledger::clock::set_next(l, n),
-        Call::Remark => {}
+        Call::Start => start(rt, line, l),
+        Call::Push => push(rt, line, l, n, w),
+        Call::Decide => decide(rt, line, l, n, w),
+        Call::Token => token(rt, line, l, n, w),
+        Call::Resource => resource(rt, line, l, n, w),
+        Call::Sweep => sweep(rt, line, l, n),
+        Call::Next => {
+            ledger::clock::set_next(l, n);
+            Ok(())
+        }
+        Call::Remark => Ok(()),
     }
 }

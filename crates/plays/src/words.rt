@@ -81,10 +81,9 @@ pub fn letters(line: &[u8]) -> [u8; 6] {
 }
 
 fn tenfold(n: u64, digit: u8) -> u64 {
-    std::num::wrapping_add_u64(
-        std::num::wrapping_add_u64(n << 3, n << 1),
-        octet(digit) as u64,
-    )
+    (n << 3)
+        .wrapping_add(n << 1)
+        .wrapping_add(octet(digit) as u64)
 }
 
 // Word n in decimal.

@@ -1,13 +1,18 @@
-use Rattle.std.proofs.Common.{arith, length, length-take-le, sym, ◌≤◌}
-use Rattle.perdigolh.proofs.Passing.{fronted}
+use Rattle.std.proofs.Common.{arith, length, ◌≤◌}
+use Rattle.perdigolh.proofs.Passing.{fronted, front_written}
 use Rattle.perdigolh.proofs.end.Goals as goal
 
-pub returns : goal.returns
-returns c =
+pub returns-clause-out_after : goal.returns-clause-out_after
+returns-clause-out_after g c =
     let f = c.finish-fed in
-    let k : f.result.filled ≤ length f.new.1.1.1.1.0 = omega arith in
-    let w = fronted _ f.result.filled f.new.1.1.1.1.0 k f.ensures.0 c.hand-last.ensures in
-    (w.0, w.1)
+    let k : f.result.filled ≤ length f.new.out = omega arith in
+    (fronted _ f.result.filled f.new.out k f.ensures.out_after c.hand-last.ensures.count_value).0
 
-pub slice_bounds-hand-end-2 : goal.slice_bounds-hand-end-2
-slice_bounds-hand-end-2 c = sym (length-take-le _ _ (omega arith))
+pub returns-clause-handed_in_bounds : goal.returns-clause-handed_in_bounds
+returns-clause-handed_in_bounds g c =
+    let f = c.finish-fed in
+    let k : f.result.filled ≤ length f.new.out = omega arith in
+    (fronted _ f.result.filled f.new.out k f.ensures.out_after c.hand-last.ensures.count_value).1
+
+pub returns-clause-written : goal.returns-clause-written
+returns-clause-written g c = λ w. front_written _ c.finish-fed.ensures.out_after _ _ (c.hand-last.ensures.whole w)

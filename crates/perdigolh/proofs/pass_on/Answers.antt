@@ -1,44 +1,48 @@
-use Rattle.std.proofs.Common.{arith, drop, length, length-drop, length-take, ltb-false, ltb-true, refl, rules, ◌-◌, ◌∙◌}
+use Rattle.std.proofs.Common.{arith, drop, length, length-drop, length-take, refl, ◌-◌}
+use Rattle.std.proofs.lemmas.Bool.{not-false}
 use Rattle.lines.specs.Turn.{held}
-use Rattle.perdigolh.proofs.Passing.{going_first, going_on, going_end, going_out}
-use mathlib.Core.Bool.{false≢true}
+use Rattle.perdigolh.proofs.Passing.{going_first, going_on, going_end, going_out, written_first, written_on, written_end, written_out}
 use Rattle.perdigolh.proofs.pass_on.Goals as goal
 
 pub loop-turns-init : goal.loop-turns-init
-loop-turns-init c = (search rules, refl, refl, refl, refl, going_first _ _ _ _)
-
-pub returns-then-not-passed : goal.returns-then-not-passed
-returns-then-not-passed c = (λ e. absurd (false≢true e), search rules)
+loop-turns-init g c = record { in_range = omega arith; going = going_first _ _ _ _; written = written_first _ _ _ _ _ }
 
 pub overflow_add-at : goal.overflow_add-at
-overflow_add-at c =
-    let passed = c in
-    let p = passed in
-    let l = p.loop-turns in
-    let chunk = p.args.chunk.now in
-    omega (arith, passed.pass-passed.ensures.1.0, length-take (length chunk - l.at) (drop l.at chunk), length-drop l.at chunk)
+overflow_add-at g c =
+    let chunk = c.args.chunk.now in
+    let at = c.loop-turns.at in
+    omega (arith, c.pass-passed.ensures.taken_in_bounds.0, length-take (length chunk - at) (drop at chunk), length-drop at chunk)
 
 pub loop-turns-preserved : goal.loop-turns-preserved
-loop-turns-preserved c =
-    let passed = c in
-    let test = passed in
-    let p = test in
-    let l = p.loop-turns in (
-      search rules,
-      search rules,
-      search rules,
-      search rules,
-      c.out-1.given ∙ l.invariant.4,
-      going_on _ (held l.state l.line l.ledger l.table) l.out p.args.chunk.now l.at l.handed l.turns (omega arith)
-          (ltb-true _ _ test.if-at-chunk.true) l.invariant.5 passed.pass-passed.ensures.0 passed.pass-passed.ensures.1.1 c.wrapping_add_usize-handed.ensures,
-    )
-
-pub returns-else-at-chunk : goal.returns-else-at-chunk
-returns-else-at-chunk c =
+loop-turns-preserved g c =
     let l = c.loop-turns in
-    (λ e. going_end _ (held l.state l.line l.ledger l.table) l.out c.args.chunk.now l.at l.handed l.turns (ltb-false _ _ c.if-at-chunk.false) l.invariant.5, search rules)
+    let p = c.pass-passed in
+    let chunk = c.args.chunk.now in
+    let before = held l.state l.line l.ledger l.table in
+    record {
+      in_range = omega (arith, p.ensures.taken_in_bounds.0, length-take (length chunk - l.at) (drop l.at chunk), length-drop l.at chunk);
+      going = going_on _ before l.out chunk l.at l.handed l.turns (omega arith) c.if-at-chunk.true l.invariant.going p.ensures.out_after
+          p.ensures.taken_in_bounds.1 refl;
+      written = written_on _ before l.out chunk l.at _ _ l.turns (omega arith) c.if-at-chunk.true l.invariant.written _ p.ensures.out_after
+          (p.ensures.written (not-false _ c.if-not-passed.false));
+    }
 
-pub returns-after-loop-turns : goal.returns-after-loop-turns
-returns-after-loop-turns c =
+pub returns-else-at-chunk-clause-leaves_as : goal.returns-else-at-chunk-clause-leaves_as
+returns-else-at-chunk-clause-leaves_as g c =
     let l = c.loop-turns in
-    (λ e. going_out _ (held l.state l.line l.ledger l.table) l.out c.args.chunk.now l.at l.handed l.turns (omega arith) l.invariant.5, search rules)
+    λ e. going_end _ (held l.state l.line l.ledger l.table) l.out c.args.chunk.now l.at l.handed l.turns c.if-at-chunk.false l.invariant.going
+
+pub returns-else-at-chunk-clause-written : goal.returns-else-at-chunk-clause-written
+returns-else-at-chunk-clause-written g c =
+    let l = c.loop-turns in
+    λ e. written_end _ (held l.state l.line l.ledger l.table) l.out c.args.chunk.now l.at _ _ l.turns c.if-at-chunk.false l.invariant.written
+
+pub returns-after-loop-turns-clause-leaves_as : goal.returns-after-loop-turns-clause-leaves_as
+returns-after-loop-turns-clause-leaves_as g c =
+    let l = c.loop-turns in
+    λ e. going_out _ (held l.state l.line l.ledger l.table) l.out c.args.chunk.now l.at l.handed l.turns (omega arith) l.invariant.going
+
+pub returns-after-loop-turns-clause-written : goal.returns-after-loop-turns-clause-written
+returns-after-loop-turns-clause-written g c =
+    let l = c.loop-turns in
+    λ e. written_out _ (held l.state l.line l.ledger l.table) l.out c.args.chunk.now l.at _ _ l.turns (omega arith) l.invariant.written

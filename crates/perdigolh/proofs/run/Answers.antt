@@ -1,35 +1,38 @@
-use Rattle.std.proofs.Common.{refl, rules, take}
+use Rattle.std.proofs.Common.{refl, take}
+use Rattle.std.proofs.lemmas.Bool.{not-false}
 use Rattle.lines.specs.Turn.{held, lengths}
-use Rattle.perdigolh.proofs.Reading.{sofar_none, sofar_more, runs_end, runs_out}
+use Rattle.perdigolh.proofs.Reading.{sofar_none, sofar_more, runs_end, none_read}
 use Rattle.perdigolh.proofs.run.Goals as goal
 
 pub loop-turns-init : goal.loop-turns-init
-loop-turns-init c =
+loop-turns-init g c =
     let a = c.args in
-    (refl, refl, refl, refl, refl, sofar_none a.line.now a.ledger.now a.table.now a.out.now c.new-state.ensures)
+    sofar_none a.line.now a.ledger.now a.table.now a.out.now c.new-state.ensures _ _
 
-pub returns-then-not-step : goal.returns-then-not-step
-returns-then-not-step c =
+pub loop-turns-preserved : goal.loop-turns-preserved
+loop-turns-preserved g c =
     let s = c.serve_some-step in
     let l = c.loop-turns in
     let a = c.args in
     let first = held (lengths 0 0 0) a.line.now a.ledger.now a.table.now in
-    runs_end first a.out.now (held l.state l.line l.ledger l.table) l.out l.handed l.invariant.5 s.result.ended s.ensures.1 c.wrapping_add_usize-handed.ensures
+    let more = not-false s.result.more c.if-not-step.false in
+    sofar_more first a.out.now (held l.state l.line l.ledger l.table) l.out l.handed _ _ _ _ l.invariant (take s.result.got s.new.input)
+    more s.ensures.leaves_as refl _ _ s.ensures.read (s.ensures.written more)
 
-pub loop-turns-preserved : goal.loop-turns-preserved
-loop-turns-preserved c =
+pub returns-then-not-step-clause-runs_on : goal.returns-then-not-step-clause-runs_on
+returns-then-not-step-clause-runs_on g c =
     let s = c.serve_some-step in
     let l = c.loop-turns in
     let a = c.args in
-    let first = held (lengths 0 0 0) a.line.now a.ledger.now a.table.now in (
-      search rules,
-      search rules,
-      search rules,
-      search rules,
-      search rules,
-      sofar_more first a.out.now (held l.state l.line l.ledger l.table) l.out l.handed l.invariant.5 (take s.result.got s.new.1.0)
-          (c.if-not-step.false) s.ensures.0 c.wrapping_add_usize-handed.ensures,
-    )
+    let first = held (lengths 0 0 0) a.line.now a.ledger.now a.table.now in
+    runs_end first a.out.now (held l.state l.line l.ledger l.table) l.out l.handed _ _ _ _ l.invariant s.result.ended s.ensures.ends_as refl _ _
+    (λ t. none_read _ _ s.new.input (s.ensures.at_end t).0 s.ensures.read) s.ensures.last
 
-pub returns : goal.returns
-returns c = runs_out _ _ _ _ _
+pub returns-then-not-step-clause-runs_as : goal.returns-then-not-step-clause-runs_as
+returns-then-not-step-clause-runs_as g c =
+    let s = c.serve_some-step in
+    let l = c.loop-turns in
+    let a = c.args in
+    let first = held (lengths 0 0 0) a.line.now a.ledger.now a.table.now in
+    (runs_end first a.out.now (held l.state l.line l.ledger l.table) l.out l.handed _ _ _ _ l.invariant s.result.ended s.ensures.ends_as refl _ _
+    (λ t. none_read _ _ s.new.input (s.ensures.at_end t).0 s.ensures.read) s.ensures.last).runs

@@ -1,0 +1,45 @@
+-- Laws of the bytes that a writer holds and of those that a reader has left, where they are known.
+use Rattle.std.proofs.Common.{◌≡◌, ℕ, ◌+◌, ◌-◌, ◌≤◌, List, [], ◌++◌, length, take, drop, Option, None, Some, refl, sym, ap, ◌∙◌, append_assoc, append-nil, arith, length-drop, take_all}
+use Rattle.std.proofs.Math.Seq.{take-add}
+use Rattle.std.specs.Io.KnownBytes.{Keeps, Appends, Consumes}
+
+pub appends_none : (a b : Option (List ℕ)) → Keeps a b → Appends a b []
+appends_none None b k = tt
+appends_none (Some x) None k = absurd k
+appends_none (Some x) (Some y) k = k ∙ sym (append-nil x)
+
+pub appends_same : (a : Option (List ℕ)) → Appends a a []
+appends_same None = tt
+appends_same (Some x) = sym (append-nil x)
+
+pub appends_more : (a b c : Option (List ℕ)) (xs ys : List ℕ) → Appends a b xs → Appends b c ys → Appends a c (xs ++ ys)
+appends_more None b c xs ys p q = tt
+appends_more (Some x) None c xs ys p q = absurd p
+appends_more (Some x) (Some y) None xs ys p q = absurd q
+appends_more (Some x) (Some y) (Some z) xs ys p q = q ∙ ap (λ (v : List ℕ). v ++ ys) p ∙ append_assoc x xs ys
+
+pub consumes_none : (a b : Option (List ℕ)) → Keeps a b → Consumes a b []
+consumes_none None b k = tt
+consumes_none (Some x) None k = absurd k
+consumes_none (Some x) (Some y) k = sym k
+
+pub consumes_same : (a : Option (List ℕ)) → Consumes a a []
+consumes_same None = tt
+consumes_same (Some x) = refl
+
+pub consumes_more : (a b c : Option (List ℕ)) (xs ys : List ℕ) → Consumes a b xs → Consumes b c ys → Consumes a c (xs ++ ys)
+consumes_more None b c xs ys p q = tt
+consumes_more (Some x) None c xs ys p q = absurd p
+consumes_more (Some x) (Some y) None xs ys p q = absurd q
+consumes_more (Some x) (Some y) (Some z) xs ys p q = p ∙ ap (λ (v : List ℕ). xs ++ v) q ∙ sym (append_assoc xs ys z)
+
+-- a write more, of what stands behind the bytes that are written already
+pub written_more : (a b c : Option (List ℕ)) (bs : List ℕ) (done n : ℕ) → (done ≤ length bs) × Appends a b (take done bs)
+    → n ≤ length (take (length bs - done) (drop done bs)) → Appends b c (take n (take (length bs - done) (drop done bs)))
+    → (done + n ≤ length bs) × Appends a c (take (done + n) bs)
+written_more a b c bs done n p k q =
+    let d : take (length bs - done) (drop done bs) ≡ drop done bs = take_all (length bs - done) (drop done bs) (omega (arith, length-drop done bs)) in
+    let m : n ≤ length (drop done bs) = omega (arith, k, ap length d) in (
+      omega (arith, m, length-drop done bs, p.0),
+      rw (take-add done n bs) (appends_more a b c (take done bs) (take n (drop done bs)) p.1 (rw d at q)),
+    )

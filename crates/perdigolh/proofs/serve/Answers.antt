@@ -1,0 +1,9 @@
+use Rattle.std.proofs.Common.{rules}
+use Rattle.perdigolh.proofs.Reading.{whole}
+use Rattle.perdigolh.proofs.serve.Goals as goal
+
+pub returns-clause-whole : goal.returns-clause-whole
+returns-clause-whole g c =
+    λ t. whole _ _ _ _
+    (record { line_sized = search rules; ledger_sized = search rules; table_sized = search rules; roomy = search rules }) _ _ _ _ _
+    c.run.ensures.runs_on t (c.run.ensures.at_end t (search rules))

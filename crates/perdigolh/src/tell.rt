@@ -1,0 +1,25 @@
+// What is told of a failure: a line, with the system's words for the error.
+use std::io;
+use std::io::{Cursor, Write};
+
+// The words alone: behind them an error is printed with its number.
+fn words(text: &[u8]) -> &[u8] {
+    for at in 0..text.len() {
+        if text[at..].starts_with(b" (os error ") {
+            return &text[..at];
+        }
+    }
+    text
+}
+
+// What failed, as the caller names it, a colon, and the words.
+pub fn fail(to: &mut impl Write, what: &[u8], error: io::Error) -> io::Result<()> {
+    let mut text = Cursor::new([0u8; 256]);
+    write!(text, "{error}")?;
+    let filled = text.position() as usize;
+    let text = text.into_inner();
+    to.write_all(what)?;
+    to.write_all(b": ")?;
+    to.write_all(words(&text[..filled.min(text.len())]))?;
+    to.write_all(b"\n")
+}
