@@ -5,7 +5,7 @@
  * Link target/staticlib/libfront.a, which `tools/archives` writes once every contract is proved (x86-64 Linux), or what
  * `make install` put in its place. docs/FRONT.md has a whole front's duties, docs/OUTSIDE.md what to answer outside for each number,
  * examples/front.c a grant from beginning to end, perdigolh_text.h the values as text.
- * The functions are crates/front's; tests/lint/header.py holds this file to that source.
+ * The functions are crates/front_c's; tests/lint/header.py holds this file to that source.
  *
  * What holds for every function:
  * - It ends, on every input of every length, with a number of the table below. It checks for itself the ledger, the table and the

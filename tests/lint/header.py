@@ -16,7 +16,7 @@ from sources import TOP, tally  # noqa: E402
 
 NUMBERS = {"u8": "uint8_t", "u32": "uint32_t", "u64": "uint64_t", "usize": "size_t"}
 STRUCTS = ("Answer", "Decided", "Swept", "Introspected")
-EXPORTS = "crates/front/src/lib.rt"
+EXPORTS = "crates/front_c/src/lib.rt"
 REPR_C = r"#\[repr\(C\)\]\s*(?:#\[derive\([^\]]*\)\]\s*)?pub struct (\w+) \{([^}]*)\}"
 # each size and lifetime: its name in the header, in the bindings, and the file and name of its source
 CONSTANTS = [

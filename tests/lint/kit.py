@@ -1,5 +1,5 @@
 #!/usr/bin/env python3
-"""The kit that proves is the kit that is pinned: `rt version` is the line of .ci/kit, and every report of a check names its logic.
+"""The kit that proves is the kit that is pinned: `rt version` is the line of .ci/kit, README has it, and every report of a check names its logic.
 
   tests/lint/kit.py               ask rt, and read target/ci.log
   tests/lint/kit.py --self-test   other kits and reports of another logic: each must be noticed
@@ -29,7 +29,8 @@ def reports():
     return {crate: lines[0] for crate, lines in found.items() if lines}
 
 
-def results(pinned, here, verdicts):
+def results(pinned, here, verdicts, page):
+    yield None if f"`{pinned}`" in page else f"README.md does not name the kit `{pinned}`"
     yield None if here == pinned else f"the kit is another: {PIN} has '{pinned}', rt version says '{here}'"
     logic = re.search(r"\blogic (\w+)$", pinned)
     if not logic:
@@ -41,21 +42,23 @@ def results(pinned, here, verdicts):
 
 def self_test():
     pinned, line = "kit-1 logic 00ff", "logic=proved functions=1 sum=00ff native=nat"
+    page = f"proved with `{pinned}`"
     cases = [
-        ("in order", False, results(pinned, pinned, {"a": line})),
-        ("another kit", True, results(pinned, "kit-2 logic 00ff", {"a": line})),
-        ("another logic", True, results(pinned, "kit-1 logic 00fe", {"a": line})),
-        ("no kit", True, results(pinned, "nothing (no rt)", {})),
-        ("a report of another logic", True, results(pinned, pinned, {"a": line, "b": line.replace("00ff", "00fe")})),
-        ("a crate that is not proved", True, results(pinned, pinned, {"a": "logic=not-proved"})),
-        ("a pin with no logic", True, results("kit-1", "kit-1", {"a": line})),
+        ("in order", False, results(pinned, pinned, {"a": line}, page)),
+        ("another kit", True, results(pinned, "kit-2 logic 00ff", {"a": line}, page)),
+        ("another logic", True, results(pinned, "kit-1 logic 00fe", {"a": line}, page)),
+        ("no kit", True, results(pinned, "nothing (no rt)", {}, page)),
+        ("a report of another logic", True, results(pinned, pinned, {"a": line, "b": line.replace("00ff", "00fe")}, page)),
+        ("a crate that is not proved", True, results(pinned, pinned, {"a": "logic=not-proved"}, page)),
+        ("a page of another kit", True, results(pinned, pinned, {"a": line}, page.replace("kit-1", "kit-2"))),
+        ("a pin with no logic", True, results("kit-1", "kit-1", {"a": line}, "`kit-1`")),
     ]
     wrong = [f"{said}: {'not noticed' if bad else 'a false finding'}" for said, bad, found in cases if any(found) != bad]
     return tally(len(cases) - len(wrong), wrong)
 
 
 def main():
-    found = list(results((TOP / PIN).read_text(encoding="utf8").strip(), asked(), reports()))
+    found = list(results((TOP / PIN).read_text(encoding="utf8").strip(), asked(), reports(), (TOP / "README.md").read_text(encoding="utf8")))
     wrong = [problem for problem in found if problem]
     return tally(len(found) - len(wrong), wrong)
 

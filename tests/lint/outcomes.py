@@ -267,7 +267,7 @@ def faults(page):
 def heads_in(path, public):
     """The definitions that the contracts of a source's public functions read the outcome through."""
     for _, exported, _, _, clauses, _ in functions(without(RATTLE_COMMENT, read(path))):
-        lefts = " ".join((clause.partition(" ≡ ")[0] for clause in clauses["ensures"]) if public or exported else [])
+        lefts = " ".join(clause.partition(" ≡ ")[0] for clause in clauses["ensures"] if " ≡ " in clause and (public or exported))
         yield from (word for word in re.findall(r"\w+", lefts) if definition(path, word)[1])
 
 

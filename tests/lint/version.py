@@ -2,7 +2,7 @@
 """One release and one interface everywhere.
 
 The file VERSION names the release. The header, crates/front and the Rust crates say the same. The interface's number stands in the
-header, in crates/front, in the bindings and in the name of the function that callers ask for; tests/data/interface-N.txt has its
+header, in crates/front, in crates/front_c, in the bindings and in the name of the function that callers ask for; tests/data/interface-N.txt has its
 declarations, so that a struct or a function that changes asks for the next number.
 
   tests/lint/version.py               compare
@@ -53,7 +53,7 @@ def results():
     yield "crates/front: the interface", found(r"impl Interface \{\s*pub const NUMBER: u32 = (\d+);", "crates/front/src/version.rt"), interface
     yield "crates/front: the definition of the interface", found(r"^interface_number = (\d+)$", "crates/front/specs/Version.antt"), interface
     yield "bindings: the interface", found(r"^pub const INTERFACE: u32 = (\d+);$", LIBRARY), interface
-    for path in ("crates/front/src/lib.rt", HEADER, LIBRARY, "bindings/rust/src/raw.rs"):
+    for path in ("crates/front/src/lib.rt", "crates/front_c/src/lib.rt", HEADER, LIBRARY, "bindings/rust/src/raw.rs"):
         yield f"{path}: the name asked for", set(re.findall(r"\bperdigolh_interface_(\d+)", read(path))), {interface}
     stored = f"tests/data/interface-{interface}.txt"
     kept = read(stored).splitlines() if (TOP / stored).is_file() else []
@@ -74,6 +74,7 @@ SPOILS = [
     ("bindings/rust/Cargo.toml", "0.1.0", "0.1.1"),
     ("crates/front/src/version.rt", "NUMBER: u32 = 1000", "NUMBER: u32 = 1001"),
     ("crates/front/src/version.rt", "NUMBER: u32 = 1;", "NUMBER: u32 = 2;"),
+    ("crates/front_c/src/lib.rt", "fn perdigolh_interface_1", "fn perdigolh_interface_2"),
     ("crates/front/specs/Version.antt", "1 * 1000", "2 * 1000"),
 ]
 

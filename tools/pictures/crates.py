@@ -81,7 +81,7 @@ def draw():
         sheet.box(x[name] - WIDE // 2, y[name], WIDE, TALL, FILLS[kind(name)])
         sheet.words(x[name], y[name] + 22, name, 13, bold=kind(name) != "functions", anchor="middle")
     at = 40
-    for what, words in (("functions", "code with contracts"), ("statements", "definitions and laws, no code"), ("program", "a program: it also reads and writes, by the kit's io and libc")):
+    for what, words in (("functions", "code with contracts"), ("statements", "definitions and laws, no code"), ("program", "a program: it also reads and writes, by the kit's std")):
         sheet.box(at, high - 2, 22, 16, FILLS[what], round_=3)
         sheet.words(at + 30, high + 11, words, 12)
         at += 70 + len(words) * 7

@@ -104,7 +104,7 @@ pub fn decide(
     fresh: &[u8; 32],
     out: &mut [u8],
 ) -> Decided
-    ensures { left_with result ledger.new out.new ≡ decide ledger.old time (record { reference = reference.entry.now; client = client.now; yes = yes; holder = holder; fresh = fresh.now }) out.old }
+    ensures { left_with result ledger.new out.new ≡ decide ledger.old time (record { reference = reference.now; client = client.now; yes = yes; holder = holder; fresh = fresh.now }) out.old }
 {
     let Soundness::Sound = soundness::check(ledger) else {
         return Decided::refused(Refusal::LedgerUnsound);

@@ -42,7 +42,7 @@ pub fn perdigolh_push(
     redirect: &[u8],
     fresh: &[u8; 32],
 ) -> Answer
-    ensures { left (as_answer result) ledger.new ≡ push ledger.old time table.now (record { client = client.entry.now; key = key.now; scope = scope; challenge = challenge.now; redirect = redirect.now; fresh = fresh.now }) }
+    ensures { left (as_answer result) ledger.new ≡ push ledger.old time table.now (record { client = client.now; key = key.now; scope = scope; challenge = challenge.now; redirect = redirect.now; fresh = fresh.now }) }
 {
     Answer::of(push::push(
         ledger, time, table, client, key, scope, challenge, redirect, fresh,
@@ -59,7 +59,7 @@ pub fn perdigolh_decide(
     fresh: &[u8; 32],
     output: &mut [u8],
 ) -> Decided
-    ensures { left_with (as_decided result) ledger.new output.new ≡ decide ledger.old time (record { reference = reference.entry.now; client = client.now; yes = consents yes; holder = holder; fresh = fresh.now }) output.old }
+    ensures { left_with (as_decided result) ledger.new output.new ≡ decide ledger.old time (record { reference = reference.now; client = client.now; yes = consents yes; holder = holder; fresh = fresh.now }) output.old }
 {
     let choice = Choice::consents(yes);
     Decided::of(decide::decide(
@@ -78,7 +78,7 @@ pub fn perdigolh_token(
     verifier: &[u8],
     fresh: &[u8; 32],
 ) -> Answer
-    ensures { left (as_answer result) ledger.new ≡ token ledger.old time table.now (record { client = client.entry.now; key = key.now; presented = presented.now; code = code.now; verifier = verifier.now; fresh = fresh.now }) }
+    ensures { left (as_answer result) ledger.new ≡ token ledger.old time table.now (record { client = client.now; key = key.now; presented = presented.now; code = code.now; verifier = verifier.now; fresh = fresh.now }) }
 {
     Answer::of(token::token(
         ledger, time, table, client, key, presented, code, verifier, fresh,
@@ -93,7 +93,7 @@ pub fn perdigolh_resource(
     scope: u32,
     holder: u64,
 ) -> Answer
-    ensures { left (as_answer result) ledger.new ≡ resource ledger.old time (record { token = token.entry.now; presented = presented.now; scope = scope; holder = holder }) }
+    ensures { left (as_answer result) ledger.new ≡ resource ledger.old time (record { token = token.now; presented = presented.now; scope = scope; holder = holder }) }
 {
     Answer::of(resource::resource(ledger, time, token, presented, scope, holder))
 }
@@ -112,7 +112,7 @@ pub fn perdigolh_pending(
     client: &[u8; 16],
     output: &mut [u8],
 ) -> Decided
-    ensures { left_with (as_decided result) ledger.now output.new ≡ pending ledger.now time (record { reference = reference.entry.now; client = client.now }) output.old }
+    ensures { left_with (as_decided result) ledger.now output.new ≡ pending ledger.now time (record { reference = reference.now; client = client.now }) output.old }
 {
     Decided::of(pending::pending(ledger, time, reference, client, output))
 }

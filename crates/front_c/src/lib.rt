@@ -37,7 +37,7 @@ pub extern "C" fn perdigolh_push(
     redirect: &[u8],
     fresh: &[u8; 32],
 ) -> Answer
-    ensures { left (as_answer result) ledger.new ≡ push ledger.old time table.now (record { client = client.entry.now; key = key.now; scope = scope; challenge = challenge.now; redirect = redirect.now; fresh = fresh.now }) }
+    ensures { left (as_answer result) ledger.new ≡ push ledger.old time table.now (record { client = client.now; key = key.now; scope = scope; challenge = challenge.now; redirect = redirect.now; fresh = fresh.now }) }
 {
     front::perdigolh_push(
         ledger, time, table, client, key, scope, challenge, redirect, fresh,
@@ -55,7 +55,7 @@ pub extern "C" fn perdigolh_decide(
     fresh: &[u8; 32],
     output: &mut [u8],
 ) -> Decided
-    ensures { left_with (as_decided result) ledger.new output.new ≡ decide ledger.old time (record { reference = reference.entry.now; client = client.now; yes = consents yes; holder = holder; fresh = fresh.now }) output.old }
+    ensures { left_with (as_decided result) ledger.new output.new ≡ decide ledger.old time (record { reference = reference.now; client = client.now; yes = consents yes; holder = holder; fresh = fresh.now }) output.old }
 {
     front::perdigolh_decide(ledger, time, reference, client, yes, holder, fresh, output)
 }
@@ -72,7 +72,7 @@ pub extern "C" fn perdigolh_token(
     verifier: &[u8],
     fresh: &[u8; 32],
 ) -> Answer
-    ensures { left (as_answer result) ledger.new ≡ token ledger.old time table.now (record { client = client.entry.now; key = key.now; presented = presented.now; code = code.now; verifier = verifier.now; fresh = fresh.now }) }
+    ensures { left (as_answer result) ledger.new ≡ token ledger.old time table.now (record { client = client.now; key = key.now; presented = presented.now; code = code.now; verifier = verifier.now; fresh = fresh.now }) }
 {
     front::perdigolh_token(
         ledger, time, table, client, key, presented, code, verifier, fresh,
@@ -88,7 +88,7 @@ pub extern "C" fn perdigolh_resource(
     scope: u32,
     holder: u64,
 ) -> Answer
-    ensures { left (as_answer result) ledger.new ≡ resource ledger.old time (record { token = token.entry.now; presented = presented.now; scope = scope; holder = holder }) }
+    ensures { left (as_answer result) ledger.new ≡ resource ledger.old time (record { token = token.now; presented = presented.now; scope = scope; holder = holder }) }
 {
     front::perdigolh_resource(ledger, time, token, presented, scope, holder)
 }
@@ -109,7 +109,7 @@ pub extern "C" fn perdigolh_pending(
     client: &[u8; 16],
     output: &mut [u8],
 ) -> Decided
-    ensures { left_with (as_decided result) ledger.now output.new ≡ pending ledger.now time (record { reference = reference.entry.now; client = client.now }) output.old }
+    ensures { left_with (as_decided result) ledger.now output.new ≡ pending ledger.now time (record { reference = reference.now; client = client.now }) output.old }
 {
     front::perdigolh_pending(ledger, time, reference, client, output)
 }

@@ -23,7 +23,7 @@ pub fn pending(
     client: &[u8; 16],
     output: &mut [u8],
 ) -> Decided
-    ensures { left_with result ledger.now output.new ≡ pending ledger.now time (record { reference = reference.entry.now; client = client.now }) output.old }
+    ensures { left_with result ledger.now output.new ≡ pending ledger.now time (record { reference = reference.now; client = client.now }) output.old }
 {
     let Soundness::Sound = soundness::check(ledger) else {
         return Decided::refused(Refusal::LedgerUnsound);

@@ -84,7 +84,7 @@ pub fn push(
     redirect: &[u8],
     fresh: &[u8; 32],
 ) -> Answer
-    ensures { left result ledger.new ≡ push ledger.old time table.now (record { client = client.entry.now; key = key.now; scope = scope; challenge = challenge.now; redirect = redirect.now; fresh = fresh.now }) }
+    ensures { left result ledger.new ≡ push ledger.old time table.now (record { client = client.now; key = key.now; scope = scope; challenge = challenge.now; redirect = redirect.now; fresh = fresh.now }) }
 {
     let Soundness::Sound = soundness::check(ledger) else {
         return Answer::refused(Refusal::LedgerUnsound);

@@ -23,7 +23,7 @@ pub fn look(
     scope: u32,
     holder: u64,
 ) -> Reading
-    ensures { result ≡ look ledger.now time (record { token = token.entry.now; presented = presented.now; scope = scope; holder = holder }) }
+    ensures { result ≡ look ledger.now time (record { token = token.now; presented = presented.now; scope = scope; holder = holder }) }
 {
     let Soundness::Sound = soundness::check(ledger) else {
         return Reading::Refused(Refusal::LedgerUnsound);
@@ -71,7 +71,7 @@ pub fn resource(
     scope: u32,
     holder: u64,
 ) -> Answer
-    ensures { left result ledger.new ≡ resource ledger.old time (record { token = token.entry.now; presented = presented.now; scope = scope; holder = holder }) }
+    ensures { left result ledger.new ≡ resource ledger.old time (record { token = token.now; presented = presented.now; scope = scope; holder = holder }) }
 {
     let reading = look(ledger, time, token, presented, scope, holder);
     resource_by(ledger, time, reading)

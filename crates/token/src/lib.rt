@@ -79,7 +79,7 @@ pub fn token(
     verifier: &[u8],
     fresh: &[u8; 32],
 ) -> Answer
-    ensures { left result ledger.new ≡ token ledger.old time table.now (record { client = client.entry.now; key = key.now; presented = presented.now; code = code.now; verifier = verifier.now; fresh = fresh.now }) }
+    ensures { left result ledger.new ≡ token ledger.old time table.now (record { client = client.now; key = key.now; presented = presented.now; code = code.now; verifier = verifier.now; fresh = fresh.now }) }
 {
     let Soundness::Sound = soundness::check(ledger) else {
         return Answer::refused(Refusal::LedgerUnsound);
