@@ -31,7 +31,7 @@ FILES = {
     "target/gate.txt": f"date 2026-01-01T00:00:00Z\ncommit {COMMIT}\nkit {KIT}\nseconds 9\ntally 7 passed, 0 failed\n",
     GATE_LOG: DESK + PROGRAM + REFUSED,
     "kit/libc/src/lib.rt": 'extern "C" {\n    // reads\n    pub fn read(fd: i32, to: &mut [u8; 8]) -> isize\n        ensures { Moved result };\n    pub fn see() -> i32;\n}\n',
-    "kit/libc/src/heap.rt": 'extern "C" {\n    // makes\n    pub safe fn make<R: Ends>() -> i32;\n}\n',
+    "kit/libc/src/heap.rt": 'extern "C" {\n    // makes\n    pub unsafe fn make<R: Ends>() -> i32;\n}\n',
     "kit/os/src/lib.rt": 'pub mod c {\n    extern "C" {\n        // tells\n        pub fn told() -> i32;\n    }\n}\n',
     "kit/libc/specs/Io.antt": "-- what it may answer\nabbrev pub Moved : ℤ → Type 0\nMoved k = k ≡ 0\n",
 }
