@@ -1,7 +1,9 @@
 -- Laws of the bytes that a writer holds and of those that a reader has left, where they are known.
-use Rattle.std.proofs.Common.{◌≡◌, ℕ, ◌+◌, ◌-◌, ◌≤◌, List, [], ◌++◌, length, take, drop, Option, None, Some, refl, sym, ap, ◌∙◌, append_assoc, append-nil, arith, length-drop, take_all}
-use Rattle.std.proofs.Math.Seq.{take-add}
+use Rattle.std.proofs.Common.{◌≡◌, ℕ, ◌+◌, ◌-◌, ◌≤◌, List, [], ◌++◌, length, take, drop, Option, None, Some, refl, sym, ap, ◌∙◌, append_assoc, append-nil, arith, length-drop, take_all, min}
+use Rattle.std.proofs.Math.Seq.{take-add, take-append-add}
+use Rattle.std.proofs.lemmas.List.{take-append-le, take_min}
 use Rattle.std.specs.Io.KnownBytes.{Keeps, Appends, Consumes}
+use Rattle.perdigolh.specs.Chunk.{Begins}
 
 pub appends_none : (a b : Option (List ℕ)) → Keeps a b → Appends a b []
 appends_none None b k = tt
@@ -43,3 +45,21 @@ written_more a b c bs done n p k q =
       omega (arith, m, length-drop done bs, p.0),
       rw (take-add done n bs) (appends_more a b c (take done bs) (take n (drop done bs)) p.1 (rw d at q)),
     )
+
+-- ---- the beginning of what is to be written
+
+pub begins_none : (a : Option (List ℕ)) (bs : List ℕ) → Begins a a bs
+begins_none a bs = record { count = 0; front = appends_same a }
+
+pub begins_all : (a b : Option (List ℕ)) (bs : List ℕ) → Appends a b bs → Begins a b bs
+begins_all a b bs p = record { count = length bs; front = rw (take_all (length bs) bs (omega arith)) p }
+
+pub begins_more : (a b c : Option (List ℕ)) (xs ys : List ℕ) → Appends a b xs → Begins b c ys → Begins a c (xs ++ ys)
+begins_more a b c xs ys p q =
+    record { count = length xs + q.count; front = rw (take-append-add xs ys q.count) (appends_more a b c xs (take q.count ys) p q.front) }
+
+pub begins_longer : (a b : Option (List ℕ)) (xs ys : List ℕ) → Begins a b xs → Begins a b (xs ++ ys)
+begins_longer a b xs ys p =
+    let n = p.count in
+    let e : take (min n (length xs)) (xs ++ ys) ≡ take n xs = take-append-le (min n (length xs)) xs ys (omega arith) ∙ take_min n xs in
+    record { count = min n (length xs); front = rw e p.front }

@@ -2,7 +2,8 @@
 use Rattle.std.proofs.Common.{◌≡◌, ℕ, zero, suc, ◌+◌, ◌-◌, ◌%◌, ◌^◌, ◌<◌, ◌≤◌, List, [], ◌∷◌, length, take, drop, sym, refl, ap, ◌∙◌, arith, length-append, length-drop, drop_of_length-le, length-take-le, take_all, drop-drop, ◌++◌, append_assoc, append-nil, Option, subst}
 use Rattle.std.specs.Io.KnownBytes.{Appends}
 use Rattle.lines.specs.Turn.{Held}
-use Rattle.perdigolh.proofs.Bytes.{appends_same, appends_more}
+use Rattle.perdigolh.proofs.Bytes.{appends_same, appends_more, begins_more, begins_longer}
+use Rattle.perdigolh.specs.Chunk.{Begins}
 use Rattle.lines.specs.Feed.{Left, left, feed}
 use Rattle.lines.specs.Run.{Passed, passed, behind, puts, pass_on}
 
@@ -85,6 +86,9 @@ fronted l f o k {h} {t} {n} e c =
 pub front_written : (l : Left) {h : Held} {t f : ℕ} {o : List ℕ} → left h t f o ≡ l → (a b : Option (List ℕ)) → Appends a b (take f o) → Appends a b (puts l)
 front_written l e a b w = let P : Left → Type 0 = λ x. Appends a b (puts x) in subst P e w
 
+pub front_begun : (l : Left) {h : Held} {t f : ℕ} {o : List ℕ} → left h t f o ≡ l → (a b : Option (List ℕ)) → Begins a b (take f o) → Begins a b (puts l)
+front_begun l e a b w = let P : Left → Type 0 = λ x. Begins a b (puts x) in subst P e w
+
 -- ---- what a writer holds of it
 
 -- what was written so far, with the n calls that are left, is all that p writes
@@ -136,3 +140,18 @@ module _ (p : Passed) (h : Held) (out chunk : List ℕ) (at : ℕ) (a b : Option
   unfolding pass_on
   written_out zero l w = written_last p 0 h out (drop at chunk) a b w refl
   written_out (suc n) l w = absurd (omega arith)
+
+  -- a call of which the beginning was written
+  pub written_begun : (n : ℕ) → 0 < n → at < length chunk → Written p n h out (drop at chunk) a b → (c : Option (List ℕ))
+      → Begins b c (puts (feed h (take (length chunk - at) (drop at chunk)) out)) → Begins a c p.written
+  written_begun zero z l w c u = absurd (omega arith)
+  written_begun (suc n) z l w c u =
+      let cs = drop at chunk in
+      let x : take (length chunk - at) cs ≡ cs = take_all (length chunk - at) cs (omega (arith, length-drop at chunk)) in
+      let i : 0 < length cs = omega (arith, length-drop at chunk) in
+      let f = feed h cs out in
+      let rest = (pass_on n f.held f.out (drop f.taken cs)).written in
+      let e : p.written ≡ w.bytes ++ (puts f ++ rest) = w.whole ∙ ap (λ (x : Passed). w.bytes ++ x.written) (more n h out cs i) in
+      let P : List ℕ → Type 0 = λ y. Begins b c (puts (feed h y out)) in
+      let Q : List ℕ → Type 0 = λ y. Begins a c y in
+      subst Q (sym e) (begins_more a b c w.bytes (puts f ++ rest) w.so_far (begins_longer b c (puts f) rest (subst P x u)))

@@ -1,5 +1,5 @@
 -- Laws of the chunks that were read, one after the other, and of the end.
-use Rattle.std.proofs.Common.{◌≡◌, ℕ, ◌+◌, ◌%◌, ◌^◌, ◌≤◌, Bool, true, false, List, [], ◌∷◌, ◌++◌, length, take, sym, refl, ap, ◌∙◌, append_assoc, append-nil, arith, length-append, length-take-le, Option, None, Some, IfSome, subst}
+use Rattle.std.proofs.Common.{◌≡◌, ℕ, ◌+◌, ◌%◌, ◌^◌, ◌≤◌, Bool, true, false, List, [], ◌∷◌, ◌++◌, length, take, sym, refl, ap, ◌∙◌, append_assoc, append-nil, arith, length-append, length-take-le, Option, None, Some, IfSome, subst, ◌⊎◌, inl, inr}
 use Rattle.std.proofs.lemmas.Bool.{false≢true}
 use Rattle.std.specs.Io.KnownBytes.{Appends, Consumes, IsAtEnd}
 use Rattle.lines.specs.Turn.{Held, held, lengths}
@@ -8,8 +8,8 @@ use Rattle.lines.specs.Lines.{run}
 use Rattle.lines.specs.Run.{Passed, puts, pass_on, pass_all, session, joined, Buffers}
 use Rattle.lines.proofs.Whole.{whole_run}
 use Rattle.lines.specs.declared.feed.State.{State}
-use Rattle.perdigolh.specs.Chunk.{LeavesAs, EndsAs, RunsAs, RunsOn}
-use Rattle.perdigolh.proofs.Bytes.{appends_same, appends_more, consumes_same, consumes_more}
+use Rattle.perdigolh.specs.Chunk.{LeavesAs, EndsAs, RunsAs, RunsOn, Begins, WritesFront}
+use Rattle.perdigolh.proofs.Bytes.{appends_same, appends_more, consumes_same, consumes_more, begins_all, begins_more, begins_longer}
 
 -- ---- one read
 
@@ -141,6 +141,43 @@ module _ (first : Held) (out₀ : List ℕ) (h : Held) (out : List ℕ) (handed 
         writes = λ t. subst A p (appends_more w w' w'' a.written (puts (finish h out)) s.writes (y t));
       }
 
+  -- a step of which the beginning was written
+  pub front_end : Sofar first out₀ h out handed r r' w w' → (n : ℕ) (input : List ℕ) (HasRoom HadRoom : Type 0) → (HadRoom → HasRoom)
+      → (r'' w'' : Option (List ℕ))
+      → Consumes r' r'' (take n input)
+      → Begins w' w'' (pass_on (length (take n input)) h out (take n input)).written ⊎ ((n ≡ 0) × (HasRoom → IsAtEnd r'') × Begins w' w'' (puts (finish h out)))
+      → WritesFront first out₀ HadRoom r r'' w w''
+  unfolding session
+  front_end s n input HasRoom HadRoom k r'' w'' x y =
+      let c = take n input in
+      let a = pass_all first out₀ s.chunks in
+      let i = one_more first out₀ s.chunks c in
+      let p : pass_on (length c) h out c ≡ pass_on (length c) a.held a.out c =
+      ap (λ (x : Held). pass_on (length c) x out c) s.held ∙ ap (λ (x : List ℕ). pass_on (length c) a.held x c) s.out' in
+      let q : finish h out ≡ finish a.held a.out =
+      ap (λ (x : Held). finish x out) s.held ∙ ap (λ (x : List ℕ). finish a.held x) s.out' in
+      let f : a.written ++ (pass_on (length c) h out c).written ≡ (pass_all first out₀ (s.chunks ++ (c ∷ []))).written =
+      ap (λ (x : Passed). a.written ++ x.written) p ∙ sym i.2 in
+      let C : List ℕ → Type 0 = λ v. Consumes r r'' v in
+      let B : List ℕ → Type 0 = λ v. Begins w w'' v in
+      let F : Left → Type 0 = λ v. Begins w w'' (a.written ++ puts v) in
+      elim y [
+        | inl b ↦ record {
+          chunks = s.chunks ++ (c ∷ []);
+          reads = subst C (sym (joined_more s.chunks c)) (consumes_more r r' r'' (joined s.chunks) c s.reads x);
+          front = inl (subst B f (begins_more w w' w'' a.written (pass_on (length c) h out c).written s.writes b));
+        }
+        | inr t ↦ record {
+          chunks = s.chunks;
+          reads = subst C (ap (λ (v : List ℕ). joined s.chunks ++ v) (ap (λ (m : ℕ). take m input) t.0) ∙ append-nil (joined s.chunks))
+              (consumes_more r r' r'' (joined s.chunks) c s.reads x);
+          front = inr (λ z. t.1 (k z), subst F q (begins_more w w' w'' a.written (puts (finish h out)) s.writes t.2));
+        }
+      ]
+
+  pub front_out : Sofar first out₀ h out handed r r' w w' → (HasRoom : Type 0) → WritesFront first out₀ HasRoom r r' w w'
+  front_out s HasRoom = record { chunks = s.chunks; reads = s.reads; front = inl (begins_all w w' (pass_all first out₀ s.chunks).written s.writes) }
+
 -- the turns are used up
 pub runs_out : (first : Held) (out₀ : List ℕ) (h : Held) (out : List ℕ) (handed : ℕ) (r r' w w' : Option (List ℕ)) → RunsOn first out₀ false h out handed r r' w w'
 runs_out first out₀ h out handed r r' w w' =
@@ -167,3 +204,23 @@ whole line ledger table out b None r' w w' ended s t e = tt
 whole line ledger table out b (Some xs) r' w w' ended s t e =
     let A : List ℕ → Type 0 = λ v. Appends w w' v in
     subst A (whole_run line ledger table out s.runs.chunks b ∙ ap run (all_read xs r' (joined s.runs.chunks) (s.reads t) e)) (s.writes t)
+
+-- whatever failed, it is the beginning of that run
+pub front : (line ledger table out : List ℕ) → Buffers line ledger table out → (HasRoom : Type 0) → HasRoom → (r r' w w' : Option (List ℕ))
+    → WritesFront (held (lengths 0 0 0) line ledger table) out HasRoom r r' w w' → IfSome r (λ xs. Begins w w' (run xs))
+unfolding session
+front line ledger table out b HasRoom k None r' w w' s = tt
+front line ledger table out b HasRoom k (Some xs) None w w' s = absurd s.reads
+front line ledger table out b HasRoom k (Some xs) (Some ys) w w' s =
+    let first = held (lengths 0 0 0) line ledger table in
+    let a = pass_all first out s.chunks in
+    let p = pass_on (length ys) a.held a.out ys in
+    let q = pass_all first out (s.chunks ++ (ys ∷ [])) in
+    let B : List ℕ → Type 0 = λ v. Begins w w' v in
+    let e : (a.written ++ p.written) ++ puts (finish q.held q.out) ≡ run xs =
+    ap (λ (v : List ℕ). v ++ puts (finish q.held q.out)) (sym (one_more first out s.chunks ys).2)
+    ∙ whole_run line ledger table out (s.chunks ++ (ys ∷ [])) b ∙ ap run (joined_more s.chunks ys ∙ sym s.reads) in
+    elim s.front [
+      | inl t ↦ subst B e (begins_longer w w' (a.written ++ p.written) (puts (finish q.held q.out)) (begins_longer w w' a.written p.written t))
+      | inr t ↦ subst B (whole_run line ledger table out s.chunks b ∙ ap run (all_read xs (Some ys) (joined s.chunks) s.reads (t.0 k))) t.1
+    ]

@@ -1,6 +1,6 @@
 -- What a step of the line program leaves, and the whole of it. What each call of lines hands on to be written stands in the contracts of `pass` and `end`.
-use Rattle.std.specs.Prelude.{◌≡◌, ℕ, ◌%◌, ◌^◌, Bool, true, List, length, Option}
-use Rattle.std.specs.Io.KnownBytes.{Appends, Consumes}
+use Rattle.std.specs.Prelude.{◌≡◌, ℕ, ◌%◌, ◌^◌, Bool, true, List, ◌⊎◌, length, take, Option}
+use Rattle.std.specs.Io.KnownBytes.{Appends, Consumes, IsAtEnd}
 use Rattle.lines.specs.Turn.{Held}
 use Rattle.lines.specs.Feed.{Left, finish}
 use Rattle.lines.specs.Run.{Passed, puts, pass_all, session, joined}
@@ -28,3 +28,16 @@ pub record RunsOn (first : Held) (out₀ : List ℕ) (ended : Bool) (h : Held) (
   pub runs : RunsAs first out₀ ended h out handed
   pub reads : ended ≡ true → Consumes unread unread' (joined runs.chunks)
   pub writes : ended ≡ true → Appends contents contents' (session first out₀ runs.chunks)
+
+-- a writer got the beginning of bs, all of it maybe, and nothing else
+pub record Begins (contents contents' : Option (List ℕ)) (bs : List ℕ) : Type 0 where
+  pub count : ℕ
+  pub front : Appends contents contents' (take count bs)
+
+-- whatever failed: there are chunks that were read, one after the other, and what was written is the beginning of what passing them on writes, or, where the
+-- input came to its end, of the session. A reader says that it is at its end only to a buffer that has room.
+pub record WritesFront (first : Held) (out₀ : List ℕ) (HasRoom : Type 0) (unread unread' contents contents' : Option (List ℕ)) : Type 0 where
+  pub chunks : List (List ℕ)
+  pub reads : Consumes unread unread' (joined chunks)
+  pub front : Begins contents contents' (pass_all first out₀ chunks).written
+      ⊎ ((HasRoom → IsAtEnd unread') × Begins contents contents' (session first out₀ chunks))

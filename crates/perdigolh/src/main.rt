@@ -9,7 +9,7 @@ ghost use Rattle.lines.specs.Turn.{held, lengths};
 ghost use Rattle.lines.specs.Feed.{left, feed, finish};
 ghost use Rattle.lines.specs.Run.{puts, pass_on};
 ghost use Rattle.lines.specs.Lines.{run};
-ghost use Rattle.perdigolh.specs.Chunk.{LeavesAs, EndsAs, RunsAs, RunsOn};
+ghost use Rattle.perdigolh.specs.Chunk.{LeavesAs, EndsAs, RunsAs, RunsOn, Begins, WritesFront};
 
 mod tell;
 
@@ -74,7 +74,7 @@ fn write_whole<W: Write>(writer: &mut W, bytes: &[u8]) -> io::Result<()>
 fn hand<W: Write>(writer: &mut W, bytes: &[u8]) -> Handed
     ensures count_value { result.count ≡ length bytes.now }
     ensures whole { IsTrue result.is_written → Appends (W.contents writer.old) (W.contents writer.new) bytes.now }
-    ensures front { (n : ℕ) × (n ≤ length bytes.now) × Appends (W.contents writer.old) (W.contents writer.new) (take n bytes.now) }
+    ensures front { Begins (W.contents writer.old) (W.contents writer.new) bytes.now }
     ensures failure { IsTrue result.is_written ↔ IsNone result.failure }
 {
     match write_whole(writer, bytes) {
@@ -104,6 +104,7 @@ fn pass<W: Write>(
     ensures out_after { left (held result.state line.new ledger.new table.new) result.taken result.handed out.new ≡ feed (held s line.old ledger.old table.old) chunk.now out.old }
     ensures taken_in_bounds { (result.taken ≤ length chunk.now) × (result.handed ≤ length out.new) }
     ensures written { IsTrue result.is_written → Appends (W.contents writer.old) (W.contents writer.new) (puts (feed (held s line.old ledger.old table.old) chunk.now out.old)) }
+    ensures front { Begins (W.contents writer.old) (W.contents writer.new) (puts (feed (held s line.old ledger.old table.old) chunk.now out.old)) }
     ensures failure { IsTrue result.is_written ↔ IsNone result.failure }
 {
     let fed = feed(chunk, s, line, ledger, table, out);
@@ -132,6 +133,7 @@ fn pass_on<W: Write>(
     ensures leaves_as { LeavesAs (pass_on (length chunk.now) (held s line.old ledger.old table.old) out.old chunk.now) result.more (held result.state line.new ledger.new table.new) out.new result.handed }
     ensures got_value { (result.got ≡ length chunk.now) × (result.ended ≡ false) }
     ensures written { IsTrue result.more → Appends (W.contents writer.old) (W.contents writer.new) (pass_on (length chunk.now) (held s line.old ledger.old table.old) out.old chunk.now).written }
+    ensures front { Begins (W.contents writer.old) (W.contents writer.new) (pass_on (length chunk.now) (held s line.old ledger.old table.old) out.old chunk.now).written }
     ensures failure { IsTrue result.more ↔ IsNone result.failure }
 {
     let mut state = s;
@@ -178,6 +180,7 @@ fn end<W: Write>(
     ensures out_after { left (held result.state line.new ledger.new table.new) result.taken result.handed out.new ≡ finish (held s line.old ledger.old table.old) out.old }
     ensures handed_in_bounds { result.handed ≤ length out.new }
     ensures written { IsTrue result.is_written → Appends (W.contents writer.old) (W.contents writer.new) (puts (finish (held s line.old ledger.old table.old) out.old)) }
+    ensures front { Begins (W.contents writer.old) (W.contents writer.new) (puts (finish (held s line.old ledger.old table.old) out.old)) }
     ensures failure { IsTrue result.is_written ↔ IsNone result.failure }
 {
     let fed = finish(s, line, ledger, table, out);
@@ -236,6 +239,7 @@ fn serve_some<R: Read, W: Write>(
     ensures written { IsTrue result.more → Appends (W.contents writer.old) (W.contents writer.new) (pass_on (length (take result.got input.new)) (held s line.old ledger.old table.old) out.old (take result.got input.new)).written }
     ensures last { IsTrue result.ended → Appends (W.contents writer.old) (W.contents writer.new) (puts (finish (held s line.old ledger.old table.old) out.old)) }
     ensures at_end { IsTrue result.ended → (result.got ≡ 0) × (0 < length input.old → IsAtEnd (R.remaining reader.new)) }
+    ensures front { Begins (W.contents writer.old) (W.contents writer.new) (pass_on (length (take result.got input.new)) (held s line.old ledger.old table.old) out.old (take result.got input.new)).written ⊎ ((result.got ≡ 0) × (0 < length input.old → IsAtEnd (R.remaining reader.new)) × Begins (W.contents writer.old) (W.contents writer.new) (puts (finish (held s line.old ledger.old table.old) out.old))) }
     ensures failure { (IsTrue result.more ⊎ IsTrue result.ended) ↔ IsNone result.failure }
 {
     match reader.read(input) {
@@ -270,6 +274,7 @@ fn run<R: Read, W: Write>(
     ensures runs_as { RunsAs (held (lengths 0 0 0) line.old ledger.old table.old) out.old result.ended (held result.state line.new ledger.new table.new) out.new result.handed }
     ensures runs_on { RunsOn (held (lengths 0 0 0) line.old ledger.old table.old) out.old result.ended (held result.state line.new ledger.new table.new) out.new result.handed (R.remaining reader.old) (R.remaining reader.new) (W.contents writer.old) (W.contents writer.new) }
     ensures at_end { IsTrue result.ended → 0 < length input.old → IsAtEnd (R.remaining reader.new) }
+    ensures front { WritesFront (held (lengths 0 0 0) line.old ledger.old table.old) out.old (0 < length input.old) (R.remaining reader.old) (R.remaining reader.new) (W.contents writer.old) (W.contents writer.new) }
     ensures failure { (IsTrue result.more ⊎ IsTrue result.ended) ↔ IsNone result.failure }
 {
     let mut state = State::new();
@@ -306,6 +311,7 @@ fn run<R: Read, W: Write>(
 // and the writer.
 fn serve<R: Read, W: Write>(reader: &mut R, writer: &mut W) -> Step
     ensures whole { IsTrue result.ended → IfSome (R.remaining reader.old) (λ xs. Appends (W.contents writer.old) (W.contents writer.new) (run xs)) }
+    ensures front { IfSome (R.remaining reader.old) (λ xs. Begins (W.contents writer.old) (W.contents writer.new) (run xs)) }
     ensures failure { (IsTrue result.more ⊎ IsTrue result.ended) ↔ IsNone result.failure }
 {
     let mut input = [0u8; 65536];

@@ -1,5 +1,5 @@
 use Rattle.std.proofs.Common.{arith, length, ◌≤◌}
-use Rattle.perdigolh.proofs.Passing.{fronted, front_written}
+use Rattle.perdigolh.proofs.Passing.{fronted, front_written, front_begun}
 use Rattle.perdigolh.proofs.end.Goals as goal
 
 pub returns-clause-out_after : goal.returns-clause-out_after
@@ -16,3 +16,6 @@ returns-clause-handed_in_bounds g c =
 
 pub returns-clause-written : goal.returns-clause-written
 returns-clause-written g c = λ w. front_written _ c.finish-fed.ensures.out_after _ _ (c.hand-last.ensures.whole w)
+
+pub returns-clause-front : goal.returns-clause-front
+returns-clause-front g c = front_begun _ c.finish-fed.ensures.out_after _ _ c.hand-last.ensures.front

@@ -1,7 +1,8 @@
 use Rattle.std.proofs.Common.{arith, drop, length, length-drop, length-take, refl, ◌-◌}
 use Rattle.std.proofs.lemmas.Bool.{not-false}
 use Rattle.lines.specs.Turn.{held}
-use Rattle.perdigolh.proofs.Passing.{going_first, going_on, going_end, going_out, written_first, written_on, written_end, written_out}
+use Rattle.perdigolh.proofs.Bytes.{begins_all}
+use Rattle.perdigolh.proofs.Passing.{going_first, going_on, going_end, going_out, written_first, written_on, written_end, written_out, written_begun}
 use Rattle.perdigolh.proofs.pass_on.Goals as goal
 
 pub loop-turns-init : goal.loop-turns-init
@@ -46,3 +47,19 @@ pub returns-after-loop-turns-clause-written : goal.returns-after-loop-turns-clau
 returns-after-loop-turns-clause-written g c =
     let l = c.loop-turns in
     λ e. written_out _ (held l.state l.line l.ledger l.table) l.out c.args.chunk.now l.at _ _ l.turns (omega arith) l.invariant.written
+
+pub returns-then-not-passed-clause-front : goal.returns-then-not-passed-clause-front
+returns-then-not-passed-clause-front g c =
+    let l = c.loop-turns in
+    written_begun _ (held l.state l.line l.ledger l.table) l.out c.args.chunk.now l.at _ _ l.turns (omega arith) c.if-at-chunk.true l.invariant.written _
+    c.pass-passed.ensures.front
+
+pub returns-else-at-chunk-clause-front : goal.returns-else-at-chunk-clause-front
+returns-else-at-chunk-clause-front g c =
+    let l = c.loop-turns in
+    begins_all _ _ _ (written_end _ (held l.state l.line l.ledger l.table) l.out c.args.chunk.now l.at _ _ l.turns c.if-at-chunk.false l.invariant.written)
+
+pub returns-after-loop-turns-clause-front : goal.returns-after-loop-turns-clause-front
+returns-after-loop-turns-clause-front g c =
+    let l = c.loop-turns in
+    begins_all _ _ _ (written_out _ (held l.state l.line l.ledger l.table) l.out c.args.chunk.now l.at _ _ l.turns (omega arith) l.invariant.written)

@@ -1,7 +1,7 @@
-use Rattle.std.proofs.Common.{refl, take}
+use Rattle.std.proofs.Common.{refl, take, length, ◌<◌, arith}
 use Rattle.std.proofs.lemmas.Bool.{not-false}
 use Rattle.lines.specs.Turn.{held, lengths}
-use Rattle.perdigolh.proofs.Reading.{sofar_none, sofar_more, runs_end, none_read}
+use Rattle.perdigolh.proofs.Reading.{sofar_none, sofar_more, runs_end, none_read, front_end, front_out}
 use Rattle.perdigolh.proofs.run.Goals as goal
 
 pub loop-turns-init : goal.loop-turns-init
@@ -36,3 +36,20 @@ returns-then-not-step-clause-runs_as g c =
     let first = held (lengths 0 0 0) a.line.now a.ledger.now a.table.now in
     (runs_end first a.out.now (held l.state l.line l.ledger l.table) l.out l.handed _ _ _ _ l.invariant s.result.ended s.ensures.ends_as refl _ _
     (λ t. none_read _ _ s.new.input (s.ensures.at_end t).0 s.ensures.read) s.ensures.last).runs
+
+pub returns-then-not-step-clause-front : goal.returns-then-not-step-clause-front
+returns-then-not-step-clause-front g c =
+    let s = c.serve_some-step in
+    let l = c.loop-turns in
+    let a = c.args in
+    let first = held (lengths 0 0 0) a.line.now a.ledger.now a.table.now in
+    front_end first a.out.now (held l.state l.line l.ledger l.table) l.out l.handed _ _ _ _ l.invariant s.result.got s.new.input (0 < length l.input) (0 < length a.input.now)
+    (λ k. omega arith) _ _
+    s.ensures.read s.ensures.front
+
+pub returns-clause-front : goal.returns-clause-front
+returns-clause-front g c =
+    let l = c.loop-turns in
+    let a = c.args in
+    let first = held (lengths 0 0 0) a.line.now a.ledger.now a.table.now in
+    front_out first a.out.now (held l.state l.line l.ledger l.table) l.out l.handed _ _ _ _ l.invariant _
