@@ -2,13 +2,8 @@
 use Rattle.std.proofs.Common.{◌≡◌, ℕ, ◌+◌, ◌-◌, ◌≤◌, List, [], ◌++◌, length, take, drop, Option, None, Some, refl, sym, ap, ◌∙◌, append_assoc, append-nil, arith, length-drop, take_all, min}
 use Rattle.std.proofs.Math.Seq.{take-add, take-append-add}
 use Rattle.std.proofs.lemmas.List.{take-append-le, take_min}
-use Rattle.std.specs.Io.KnownBytes.{Keeps, Appends, Consumes}
+use Rattle.std.specs.Io.KnownBytes.{Appends, Consumes}
 use Rattle.perdigolh.specs.Chunk.{Begins}
-
-pub appends_none : (a b : Option (List ℕ)) → Keeps a b → Appends a b []
-appends_none None b k = tt
-appends_none (Some x) None k = absurd k
-appends_none (Some x) (Some y) k = k ∙ sym (append-nil x)
 
 pub appends_same : (a : Option (List ℕ)) → Appends a a []
 appends_same None = tt
@@ -19,11 +14,6 @@ appends_more None b c xs ys p q = tt
 appends_more (Some x) None c xs ys p q = absurd p
 appends_more (Some x) (Some y) None xs ys p q = absurd q
 appends_more (Some x) (Some y) (Some z) xs ys p q = q ∙ ap (λ (v : List ℕ). v ++ ys) p ∙ append_assoc x xs ys
-
-pub consumes_none : (a b : Option (List ℕ)) → Keeps a b → Consumes a b []
-consumes_none None b k = tt
-consumes_none (Some x) None k = absurd k
-consumes_none (Some x) (Some y) k = sym k
 
 pub consumes_same : (a : Option (List ℕ)) → Consumes a a []
 consumes_same None = tt
@@ -47,9 +37,6 @@ written_more a b c bs done n p k q =
     )
 
 -- ---- the beginning of what is to be written
-
-pub begins_none : (a : Option (List ℕ)) (bs : List ℕ) → Begins a a bs
-begins_none a bs = record { count = 0; front = appends_same a }
 
 pub begins_all : (a b : Option (List ℕ)) (bs : List ℕ) → Appends a b bs → Begins a b bs
 begins_all a b bs p = record { count = length bs; front = rw (take_all (length bs) bs (omega arith)) p }

@@ -1,9 +1,8 @@
 -- Laws of the chunks that were read, one after the other, and of the end.
-use Rattle.std.proofs.Common.{◌≡◌, ℕ, ◌+◌, ◌%◌, ◌^◌, ◌≤◌, Bool, true, false, List, [], ◌∷◌, ◌++◌, length, take, sym, refl, ap, ◌∙◌, append_assoc, append-nil, arith, length-append, length-take-le, Option, None, Some, IfSome, subst, ◌⊎◌, inl, inr}
-use Rattle.std.proofs.lemmas.Bool.{false≢true}
+use Rattle.std.proofs.Common.{◌≡◌, ℕ, ◌+◌, ◌%◌, ◌^◌, Bool, true, List, [], ◌∷◌, ◌++◌, length, take, sym, refl, ap, ◌∙◌, append_assoc, append-nil, arith, length-append, Option, None, Some, IfSome, subst, ◌⊎◌, inl, inr}
 use Rattle.std.specs.Io.KnownBytes.{Appends, Consumes, IsAtEnd}
 use Rattle.lines.specs.Turn.{Held, held, lengths}
-use Rattle.lines.specs.Feed.{Left, left, finish}
+use Rattle.lines.specs.Feed.{Left, finish}
 use Rattle.lines.specs.Lines.{run}
 use Rattle.lines.specs.Run.{Passed, puts, pass_on, pass_all, session, joined, Buffers}
 use Rattle.lines.proofs.Whole.{whole_run}
@@ -27,23 +26,6 @@ none_written h out input z contents = rw z (appends_same contents)
 
 pub none_read : (unread unread' : Option (List ℕ)) (input : List ℕ) {n : ℕ} → n ≡ 0 → Consumes unread unread' (take n input) → Consumes unread unread' []
 none_read unread unread' input z c = rw z at c
-
--- the chunk that was passed on is as long as was said
-pub read_some : (h : Held) (out input : List ℕ) (n : ℕ) → n ≤ length input → {got : ℕ} (more : Bool) {k : Held} {o : List ℕ} {handed : ℕ}
-    → got ≡ length (take n input) → LeavesAs (pass_on (length (take n input)) h out (take n input)) more k o handed
-    → LeavesAs (pass_on (length (take got input)) h out (take got input)) more k o handed
-read_some h out input n l more e w = rw (e ∙ length-take-le n input l) w
-
-pub not_ended : {ended : Bool} {A : Type 0} → ended ≡ false → ended ≡ true → A
-not_ended e t = absurd (false≢true (sym e ∙ t))
-
-pub ends : (l : Left) {h : Held} {t f : ℕ} {out : List ℕ} (ended : Bool) → left h t f out ≡ l → f ≤ length out → EndsAs l ended h out f
-ends l {h} {t} {f} {out} ended e k =
-    λ t. (
-      ap (λ (x : Left). x.held) e,
-      ap (λ (x : Left). x.out) e,
-      sym (length-take-le f out k) ∙ ap (λ (x : Left). length (puts x)) e,
-    )
 
 -- ---- read after read
 
@@ -177,15 +159,6 @@ module _ (first : Held) (out₀ : List ℕ) (h : Held) (out : List ℕ) (handed 
 
   pub front_out : Sofar first out₀ h out handed r r' w w' → (HasRoom : Type 0) → WritesFront first out₀ HasRoom r r' w w'
   front_out s HasRoom = record { chunks = s.chunks; reads = s.reads; front = inl (begins_all w w' (pass_all first out₀ s.chunks).written s.writes) }
-
--- the turns are used up
-pub runs_out : (first : Held) (out₀ : List ℕ) (h : Held) (out : List ℕ) (handed : ℕ) (r r' w w' : Option (List ℕ)) → RunsOn first out₀ false h out handed r r' w w'
-runs_out first out₀ h out handed r r' w w' =
-    record {
-      runs = record { chunks = []; leaves = λ t. absurd (false≢true t) };
-      reads = λ t. absurd (false≢true t);
-      writes = λ t. absurd (false≢true t);
-    }
 
 -- in buffers of the right sizes, as many bytes were handed on as the run of the lines that were read has
 pub as_many : (line ledger table out : List ℕ) → Buffers line ledger table out → {h : Held} {o : List ℕ} {handed : ℕ}

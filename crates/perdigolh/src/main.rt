@@ -1,5 +1,5 @@
 // The line program: standard input is read as it comes, handed to lines, and what that puts out is written before more is read. `hand` is the one place that
-// writes and `serve_some` the one that reads. A failed read or write is told on standard error, and ends the program.
+// writes and `serve_some` the one that reads. A failed read or write ends the program, and is told on standard error.
 #![tactic(auto)]
 
 ghost use Rattle.std.specs.Prelude.{◌≡◌, ℕ, ◌<◌, ◌≤◌, ◌↔◌, ◌⊎◌, false, length, take, IsTrue, IsNone, IfSome, OnOk, OnErr};
@@ -307,8 +307,8 @@ fn run<R: Read, W: Write>(
     }
 }
 
-// The whole program, in buffers of the right sizes: where it comes to the end of the input, it has written the run of the input's lines, whatever the reader
-// and the writer.
+// The whole program, in buffers of the right sizes. For any reader and writer that tell their bytes: where it comes to the end of the input, it has written the
+// run of the input's lines, and whatever fails, the beginning of that run and nothing else.
 fn serve<R: Read, W: Write>(reader: &mut R, writer: &mut W) -> Step
     ensures whole { IsTrue result.ended → IfSome (R.remaining reader.old) (λ xs. Appends (W.contents writer.old) (W.contents writer.new) (run xs)) }
     ensures front { IfSome (R.remaining reader.old) (λ xs. Begins (W.contents writer.old) (W.contents writer.new) (run xs)) }
@@ -330,6 +330,7 @@ fn serve<R: Read, W: Write>(reader: &mut R, writer: &mut W) -> Step
     )
 }
 
+// What is told of a failure names the stream.
 fn tell_of(to: &mut impl Write, failure: Failure) -> io::Result<()> {
     match failure {
         Failure::Input(e) => tell::fail(to, b"perdigolh: standard input", e),

@@ -2,8 +2,8 @@
 use std::io;
 use std::io::{Cursor, Write};
 
-// The longest text of an error that is told.
-const LONGEST: usize = 200;
+// As much of an error's text is told: the system's are shorter.
+const LONGEST: usize = 120;
 
 // The words alone: behind them an error is printed with its number.
 fn words(text: &[u8]) -> &[u8] {
@@ -18,7 +18,7 @@ fn words(text: &[u8]) -> &[u8] {
 // What failed, as the caller names it, a colon, and the words.
 pub fn fail(to: &mut impl Write, what: &[u8], error: io::Error) -> io::Result<()> {
     let mut text = Cursor::new([0u8; LONGEST]);
-    write!(text, "{error}")?;
+    let _ = write!(text, "{error}");
     let filled = text.position() as usize;
     let text = text.into_inner();
     to.write_all(what)?;
