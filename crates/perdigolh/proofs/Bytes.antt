@@ -1,5 +1,5 @@
 -- Laws of the bytes that a writer holds and of those that a reader has left, where they are known.
-use Rattle.std.proofs.Common.{◌≡◌, ℕ, ◌+◌, ◌-◌, ◌≤◌, List, [], ◌++◌, length, take, drop, Option, None, Some, refl, sym, ap, ◌∙◌, append_assoc, append-nil, arith, length-drop, take_all, min}
+use Rattle.std.proofs.Common.{◌≡◌, ℕ, ◌+◌, ◌-◌, ◌≤◌, List, [], ◌++◌, length, take, drop, Option, None, Some, refl, sym, ap, ◌∙◌, append_assoc, append-nil, arith, length-drop, take_all, min, Result, Ok, Err, OnOk}
 use Rattle.std.proofs.Math.Seq.{take-add, take-append-add}
 use Rattle.std.proofs.lemmas.List.{take-append-le, take_min}
 use Rattle.std.specs.Io.KnownBytes.{Appends, Consumes}
@@ -50,3 +50,11 @@ begins_longer a b xs ys p =
     let n = p.count in
     let e : take (min n (length xs)) (xs ++ ys) ≡ take n xs = take-append-le (min n (length xs)) xs ys (omega arith) ∙ take_min n xs in
     record { count = min n (length xs); front = rw e p.front }
+
+-- ---- a line in parts
+
+pub told : {T E : Type 0} (r : Result T E) (a b c d e : Option (List ℕ)) (what mark words last : List ℕ) → Appends a b what → Appends b c mark → Appends c d words
+    → OnOk r (Appends d e last) → OnOk r ((x : List ℕ) × Appends a e (what ++ mark ++ x ++ last))
+told (Err x) a b c d e what mark words last p q s t = tt
+told (Ok v) a b c d e what mark words last p q s t =
+    (words, appends_more a d e (what ++ mark ++ words) last (appends_more a c d (what ++ mark) words (appends_more a b c what mark p q) s) t)

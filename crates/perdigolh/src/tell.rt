@@ -1,4 +1,7 @@
 // What is told of a failure: a line, with the system's words for the error.
+ghost use Rattle.std.specs.Prelude.{◌≡◌, ℕ, List, [], ◌∷◌, ◌++◌, take, OnOk};
+ghost use Rattle.std.specs.Io.KnownBytes.{Appends};
+
 use std::io;
 use std::io::{Cursor, Write};
 
@@ -6,7 +9,9 @@ use std::io::{Cursor, Write};
 const LONGEST: usize = 120;
 
 // The words alone: behind them an error is printed with its number.
-fn words(text: &[u8]) -> &[u8] {
+fn words(text: &[u8]) -> &[u8]
+    ensures { (n : ℕ) × (result.now ≡ take n text.now) }
+{
     for at in 0..text.len() {
         if text[at..].starts_with(b" (os error ") {
             return &text[..at];
@@ -15,8 +20,10 @@ fn words(text: &[u8]) -> &[u8] {
     text
 }
 
-// What failed, as the caller names it, a colon, and the words.
-pub fn fail(to: &mut impl Write, what: &[u8], error: io::Error) -> io::Result<()> {
+// A line of what failed, as the caller names it, a colon and a space, and the words.
+pub fn fail<W: Write>(to: &mut W, what: &[u8], error: io::Error) -> io::Result<()>
+    ensures { OnOk result ((words : List ℕ) × Appends (W.contents to.old) (W.contents to.new) (what.now ++ 58 ∷ 32 ∷ [] ++ words ++ 10 ∷ [])) }
+{
     let mut text = Cursor::new([0u8; LONGEST]);
     let _ = write!(text, "{error}");
     let filled = text.position() as usize;
