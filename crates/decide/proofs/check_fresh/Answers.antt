@@ -10,11 +10,9 @@ returns-then-not-yes c = rw (c.if-not-yes.true)
 pub returns-in_default : goal.returns-in_default
 unfolding fails_when
 returns-in_default c =
-    let c5 = c in
     rw (c.if-not-yes.false, value_told _ _ _ (sym c.check.ensures ∙ c.in_default.is))
 
 pub returns : goal.returns
 unfolding fails_when
 returns c =
-    let c5 = c in
     rw (c.if-not-yes.false, value_told _ _ _ (sym c.check.ensures ∙ c.in-New.is))

@@ -1,4 +1,4 @@
-use Rattle.std.proofs.Common.{List, ap, false, not, refl, sym, true, ℕ, ◌<◌, ◌∙◌, ◌≡◌}
+use Rattle.std.proofs.Common.{List, ap, eqb, length, ltb, ◌&&◌, not, refl, sym, true, ℕ, ◌∙◌, ◌≡◌}
 use Rattle.desk.proofs.Tests.{told}
 use Rattle.desk.proofs.Turns.{nth, Come, passes, stops, all_pass}
 use Rattle.desk.proofs.Written.{found_inside, timely_lt, decide_yes, decide_no, refuses}
@@ -9,173 +9,140 @@ use Rattle.desk.specs.Outcome.{Outcome, left_with, concludes}
 use Rattle.desk.specs.Requests.{DecideRequest}
 use Rattle.desk.specs.declared.answer.Decided.{Decided}
 use Rattle.ledger.proofs.Tests.{sound_told, time_told, life_told, found_told, found_place}
-use Rattle.ledger.specs.Checks.{untimely, is_reference}
-use Rattle.ledger.specs.Fields.{rec, slots}
+use Rattle.ledger.specs.Checks.{is_reference}
+use Rattle.ledger.specs.Fields.{rec}
+use Rattle.desk.specs.Limits.{output_least}
+use Rattle.desk.specs.Tests.{fails_when}
+use Rattle.desk.specs.declared.check.Test.TheVariants.{Passed}
+use Rattle.ledger.specs.Checks.{check_sound, check_time, check_life, taken, found}
+use Rattle.ledger.specs.declared.clock.Timing.TheVariants.{Timely}
+use Rattle.ledger.specs.declared.find.Found.TheVariants.{At}
+use Rattle.ledger.specs.declared.record.Life.TheVariants.{Alive}
+use Rattle.ledger.specs.declared.sound.Soundness.TheVariants.{Sound}
 use Rattle.decide.proofs.decide.Goals as goal
 
-abbrev place : (l : List ℕ) (time : ℕ) (request : DecideRequest) (out : List ℕ) → ℕ
-place l time request out = reference_place l request
+-- a record that is read where the request is found stands at the request's place
+record_is : (l : List ℕ) (request : DecideRequest) {k : ℕ} {r : List ℕ} → found (is_reference request.reference request.client) l ≡ At k → r ≡ rec l k
+    → r ≡ rec l (reference_place l request)
+record_is l request f p = p ∙ ap (rec l) (sym (found_place _ _ _ f))
 
-abbrev checks : (l : List ℕ) (time : ℕ) (request : DecideRequest) (out : List ℕ) → List Check
-checks l time request out = decide_checks l time request out (place l time request out)
+module _ (l : List ℕ) (time : ℕ) (request : DecideRequest) (out : List ℕ) where
+  abbrev checks : List Check
+  checks = decide_checks l time request out (reference_place l request)
 
-abbrev done : (l : List ℕ) (time : ℕ) (request : DecideRequest) (out : List ℕ) → Outcome Decided
-done l time request out = decide_at l time request out (place l time request out)
+  abbrev done : Outcome Decided
+  done = decide_at l time request out (reference_place l request)
 
-abbrev outcome : (l : List ℕ) (time : ℕ) (request : DecideRequest) (out : List ℕ) → Outcome Decided
-outcome l time request out = decide l time request out
+  -- the check whose turn has come fails: its row is answered
+  refusal : (n : ℕ) {a : Decided} → Come n checks → (nth n checks).holds ≡ true → a ≡ undecided (nth n checks).why
+      → left_with a l out ≡ decide l time request out
+  unfolding decide
+  refusal n t h e = refuses e (ap (λ (v : Verdict). concludes v (decide_leaves l out) done) (stops n checks t h))
 
--- the check whose turn has come fails: its row is answered
-refusal : (l : List ℕ) (time : ℕ) (request : DecideRequest) (out : List ℕ) (n : ℕ) {a : Decided} → Come n (checks l time request out) → (nth n (checks l time request out)).holds ≡ true → a ≡ undecided (nth n (checks l time request out)).why
-    → left_with a l out ≡ outcome l time request out
-unfolding decide
-refusal l time request out n t h e = refuses e (ap (λ (v : Verdict). concludes v (decide_leaves l out) (done l time request out)) (stops n (checks l time request out) t h))
+  -- none is left: the call is done
+  acceptance : Come 7 checks → decide l time request out ≡ done
+  unfolding decide decide_checks
+  acceptance t = ap (λ (v : Verdict). concludes v (decide_leaves l out) done) (all_pass 7 checks t refl)
 
--- none is left: the call is done
-acceptance : (l : List ℕ) (time : ℕ) (request : DecideRequest) (out : List ℕ) → Come 7 (checks l time request out) → outcome l time request out ≡ done l time request out
-unfolding decide decide_checks
-acceptance l time request out t = ap (λ (v : Verdict). concludes v (decide_leaves l out) (done l time request out)) (all_pass 7 (checks l time request out) t refl)
+  -- what has passed, check by check, and that the turn has come to the next one
+  module _ (sound : check_sound l ≡ Sound) where
+    come1 : Come 1 checks
+    unfolding decide_checks
+    come1 = passes 0 checks refl (ap not (sound_told _ _ sound))
 
-record_is : (l : List ℕ) {p k : ℕ} {r : List ℕ} → p ≡ k → r ≡ rec l k → r ≡ rec l p
-record_is l p e = e ∙ ap (rec l) (sym p)
+    module _ (timely : check_time l time ≡ Timely) where
+      come2 : Come 2 checks
+      unfolding decide_checks
+      come2 = passes 1 checks come1 (time_told _ _ _ timely)
+
+      module _ (room : fails_when (ltb (length out) output_least) ≡ Passed) where
+        come3 : Come 3 checks
+        unfolding decide_checks
+        come3 = passes 2 checks come2 (told _ _ room)
+
+        module _ {k : ℕ} (here : found (is_reference request.reference request.client) l ≡ At k) where
+          come4 : Come 4 checks
+          unfolding decide_checks
+          come4 = passes 3 checks come3 (ap not (found_told _ _ _ here))
+
+          module _ {r : List ℕ} (read : r ≡ rec l k) (alive : check_life r time ≡ Alive) where
+            come5 : Come 5 checks
+            unfolding decide_checks
+            come5 = passes 4 checks come4 (life_told _ _ _ (rw (record_is l request here read) at alive))
+
+            module _ (given : fails_when (eqb request.holder 0) ≡ Passed) where
+              come6 : Come 6 checks
+              unfolding decide_checks
+              come6 = passes 5 checks come5 (told _ _ given)
+
+              come7 : fails_when (request.yes && taken l request.fresh) ≡ Passed → Come 7 checks
+              unfolding decide_checks
+              come7 new = passes 6 checks come6 (told _ _ new)
+
+-- ---- the returns
 
 pub returns-in_default : goal.returns-in_default
 unfolding decide_checks
 returns-in_default c =
-    let l = c.args.ledger.now in
-    let time = c.args.time in
-    let request : DecideRequest = record { reference = c.args.reference.now; client = c.args.client.now; yes = c.args.yes; holder = c.args.holder; fresh = c.args.fresh.now } in
-    let out = c.args.out.now in
-    refusal l time request out 0 refl (ap not (sound_told _ _ (sym c.check.ensures ∙ c.in_default.is))) c.refused.ensures
+    refusal _ _ _ _ 0 refl
+    (ap not (sound_told _ _ (sym c.in_default.ensures))) c.refused.ensures
 
 pub returns-in_default-check : goal.returns-in_default-check
 unfolding decide_checks
 returns-in_default-check c =
-    let l = c.args.ledger.now in
-    let time = c.args.time in
-    let request : DecideRequest = record { reference = c.args.reference.now; client = c.args.client.now; yes = c.args.yes; holder = c.args.holder; fresh = c.args.fresh.now } in
-    let out = c.args.out.now in
-    let t1 : Come 1 (checks l time request out) = passes 0 (checks l time request out) refl (ap not (sound_told _ _ (sym c.check.ensures ∙ c.in-Sound.is))) in
-    refusal l time request out 1 t1 (time_told _ _ _ (sym c.check-2.ensures ∙ c.in_default-check.is)) c.refused-in_default-check.ensures
+    refusal _ _ _ _ 1 (come1 _ _ _ _ (sym c.in-Sound.ensures))
+    (time_told _ _ _ (sym c.in_default-check.ensures)) c.refused-in_default-check.ensures
 
 pub returns-in_default-room : goal.returns-in_default-room
 unfolding decide_checks
 returns-in_default-room c =
-    let l = c.args.ledger.now in
-    let time = c.args.time in
-    let request : DecideRequest = record { reference = c.args.reference.now; client = c.args.client.now; yes = c.args.yes; holder = c.args.holder; fresh = c.args.fresh.now } in
-    let out = c.args.out.now in
-    let t1 : Come 1 (checks l time request out) = passes 0 (checks l time request out) refl (ap not (sound_told _ _ (sym c.check.ensures ∙ c.in-Sound.is))) in
-    let in_time : untimely l time ≡ false = time_told _ _ _ (sym c.check-2.ensures ∙ c.in-Timely.is) in
-    let t2 : Come 2 (checks l time request out) = passes 1 (checks l time request out) t1 in_time in
-    refusal l time request out 2 t2 (told _ _ (sym c.room.ensures ∙ c.in_default-room.is)) c.refused-in_default-room.ensures
+    refusal _ _ _ _ 2 (come2 _ _ _ _ (sym c.in-Sound.ensures) (sym c.in-Timely.ensures))
+    (told _ _ (sym c.in_default-room.ensures)) c.refused-in_default-room.ensures
 
 pub returns-in_default-reference : goal.returns-in_default-reference
 unfolding decide_checks
 returns-in_default-reference c =
-    let l = c.args.ledger.now in
-    let time = c.args.time in
-    let request : DecideRequest = record { reference = c.args.reference.now; client = c.args.client.now; yes = c.args.yes; holder = c.args.holder; fresh = c.args.fresh.now } in
-    let out = c.args.out.now in
-    let t1 : Come 1 (checks l time request out) = passes 0 (checks l time request out) refl (ap not (sound_told _ _ (sym c.check.ensures ∙ c.in-Sound.is))) in
-    let in_time : untimely l time ≡ false = time_told _ _ _ (sym c.check-2.ensures ∙ c.in-Timely.is) in
-    let t2 : Come 2 (checks l time request out) = passes 1 (checks l time request out) t1 in_time in
-    let t20 : Come 3 (checks l time request out) = passes 2 (checks l time request out) t2 (told _ _ (sym c.room.ensures ∙ c.in-Passed.is)) in
-    refusal l time request out 3 t20 (ap not (found_told _ _ _ (sym c.reference.ensures ∙ c.in_default-reference.is))) c.refused-in_default-reference.ensures
+    refusal _ _ _ _ 3 (come3 _ _ _ _ (sym c.in-Sound.ensures) (sym c.in-Timely.ensures) (sym c.in-Passed.ensures))
+    (ap not (found_told _ _ _ (sym c.in_default-reference.ensures))) c.refused-in_default-reference.ensures
 
 pub returns-in_default-check_life : goal.returns-in_default-check_life
 unfolding decide_checks
 returns-in_default-check_life c =
     let l = c.args.ledger.now in
-    let time = c.args.time in
     let request : DecideRequest = record { reference = c.args.reference.now; client = c.args.client.now; yes = c.args.yes; holder = c.args.holder; fresh = c.args.fresh.now } in
-    let out = c.args.out.now in
-    let t1 : Come 1 (checks l time request out) = passes 0 (checks l time request out) refl (ap not (sound_told _ _ (sym c.check.ensures ∙ c.in-Sound.is))) in
-    let in_time : untimely l time ≡ false = time_told _ _ _ (sym c.check-2.ensures ∙ c.in-Timely.is) in
-    let t2 : Come 2 (checks l time request out) = passes 1 (checks l time request out) t1 in_time in
-    let t20 : Come 3 (checks l time request out) = passes 2 (checks l time request out) t2 (told _ _ (sym c.room.ensures ∙ c.in-Passed.is)) in
-    let t10 : Come 4 (checks l time request out) = passes 3 (checks l time request out) t20 (ap not (found_told _ _ _ (sym c.reference.ensures ∙ c.in-At.is))) in
-    let found_at : (place l time request out) ≡ c.in-At.k = found_place _ _ _ (sym c.reference.ensures ∙ c.in-At.is) in
-    refusal l time request out 4 t10 (life_told _ _ _ (rw (record_is l found_at c.at.ensures) at (sym c.check_life.ensures ∙ c.in_default-check_life.is))) c.refused-in_default-check_life.ensures
+    refusal l c.args.time request c.args.out.now 4 (come4 _ _ _ _ (sym c.in-Sound.ensures) (sym c.in-Timely.ensures) (sym c.in-Passed.ensures) (sym c.in-At.ensures))
+    (life_told _ _ _ (rw (record_is l request (sym c.in-At.ensures) c.at.ensures) at (sym c.in_default-check_life.ensures))) c.refused-in_default-check_life.ensures
 
 pub returns-in_default-given : goal.returns-in_default-given
 unfolding decide_checks
 returns-in_default-given c =
-    let l = c.args.ledger.now in
-    let time = c.args.time in
-    let request : DecideRequest = record { reference = c.args.reference.now; client = c.args.client.now; yes = c.args.yes; holder = c.args.holder; fresh = c.args.fresh.now } in
-    let out = c.args.out.now in
-    let t1 : Come 1 (checks l time request out) = passes 0 (checks l time request out) refl (ap not (sound_told _ _ (sym c.check.ensures ∙ c.in-Sound.is))) in
-    let in_time : untimely l time ≡ false = time_told _ _ _ (sym c.check-2.ensures ∙ c.in-Timely.is) in
-    let t2 : Come 2 (checks l time request out) = passes 1 (checks l time request out) t1 in_time in
-    let t20 : Come 3 (checks l time request out) = passes 2 (checks l time request out) t2 (told _ _ (sym c.room.ensures ∙ c.in-Passed.is)) in
-    let t10 : Come 4 (checks l time request out) = passes 3 (checks l time request out) t20 (ap not (found_told _ _ _ (sym c.reference.ensures ∙ c.in-At.is))) in
-    let found_at : (place l time request out) ≡ c.in-At.k = found_place _ _ _ (sym c.reference.ensures ∙ c.in-At.is) in
-    let t11 : Come 5 (checks l time request out) = passes 4 (checks l time request out) t10 (life_told _ _ _ (rw (record_is l found_at c.at.ensures) at (sym c.check_life.ensures ∙ c.in-Alive.is))) in
-    refusal l time request out 5 t11 (told _ _ (sym c.given.ensures ∙ c.in_default-given.is)) c.refused-in_default-given.ensures
+    refusal _ _ _ _ 5 (come5 _ _ _ _ (sym c.in-Sound.ensures) (sym c.in-Timely.ensures) (sym c.in-Passed.ensures) (sym c.in-At.ensures) c.at.ensures (sym c.in-Alive.ensures))
+    (told _ _ (sym c.in_default-given.ensures)) c.refused-in_default-given.ensures
 
 pub returns-in_default-check_fresh : goal.returns-in_default-check_fresh
 unfolding decide_checks
 returns-in_default-check_fresh c =
-    let l = c.args.ledger.now in
-    let time = c.args.time in
-    let request : DecideRequest = record { reference = c.args.reference.now; client = c.args.client.now; yes = c.args.yes; holder = c.args.holder; fresh = c.args.fresh.now } in
-    let out = c.args.out.now in
-    let t1 : Come 1 (checks l time request out) = passes 0 (checks l time request out) refl (ap not (sound_told _ _ (sym c.check.ensures ∙ c.in-Sound.is))) in
-    let in_time : untimely l time ≡ false = time_told _ _ _ (sym c.check-2.ensures ∙ c.in-Timely.is) in
-    let t2 : Come 2 (checks l time request out) = passes 1 (checks l time request out) t1 in_time in
-    let t20 : Come 3 (checks l time request out) = passes 2 (checks l time request out) t2 (told _ _ (sym c.room.ensures ∙ c.in-Passed.is)) in
-    let t10 : Come 4 (checks l time request out) = passes 3 (checks l time request out) t20 (ap not (found_told _ _ _ (sym c.reference.ensures ∙ c.in-At.is))) in
-    let found_at : (place l time request out) ≡ c.in-At.k = found_place _ _ _ (sym c.reference.ensures ∙ c.in-At.is) in
-    let t11 : Come 5 (checks l time request out) = passes 4 (checks l time request out) t10 (life_told _ _ _ (rw (record_is l found_at c.at.ensures) at (sym c.check_life.ensures ∙ c.in-Alive.is))) in
-    let t12 : Come 6 (checks l time request out) = passes 5 (checks l time request out) t11 (told _ _ (sym c.given.ensures ∙ c.in-Passed-given.is)) in
-    refusal l time request out 6 t12 (told _ _ (sym c.check_fresh.ensures ∙ c.in_default-check_fresh.is)) c.refused-in_default-check_fresh.ensures
+    refusal _ _ _ _ 6 (come6 _ _ _ _ (sym c.in-Sound.ensures) (sym c.in-Timely.ensures) (sym c.in-Passed.ensures) (sym c.in-At.ensures) c.at.ensures (sym c.in-Alive.ensures) (sym c.in-Passed-given.ensures))
+    (told _ _ (sym c.in_default-check_fresh.ensures)) c.refused-in_default-check_fresh.ensures
 
 pub consent_at-requires : goal.consent_at-requires
-consent_at-requires c =
-    let l = c.args.ledger.now in
-    let time = c.args.time in
-    let in_time : untimely l time ≡ false = time_told _ _ _ (sym c.check-2.ensures ∙ c.in-Timely.is) in
-    let inside : c.in-At.k < slots l = found_inside (is_reference c.args.reference.now c.args.client.now) _ _ (sym c.reference.ensures ∙ c.in-At.is) in
-    (inside, timely_lt _ _ in_time)
+consent_at-requires c = (found_inside (is_reference c.args.reference.now c.args.client.now) _ _ (sym c.in-At.ensures), timely_lt _ _ (time_told _ _ _ (sym c.in-Timely.ensures)))
 
 pub returns-then-yes : goal.returns-then-yes
-unfolding decide_checks
 returns-then-yes c =
     let l = c.args.ledger.now in
-    let time = c.args.time in
     let request : DecideRequest = record { reference = c.args.reference.now; client = c.args.client.now; yes = c.args.yes; holder = c.args.holder; fresh = c.args.fresh.now } in
-    let out = c.args.out.now in
-    let found_at : (place l time request out) ≡ c.in-At.k = found_place _ _ _ (sym c.reference.ensures ∙ c.in-At.is) in
-    let t1 : Come 1 (checks l time request out) = passes 0 (checks l time request out) refl (ap not (sound_told _ _ (sym c.check.ensures ∙ c.in-Sound.is))) in
-    let in_time : untimely l time ≡ false = time_told _ _ _ (sym c.check-2.ensures ∙ c.in-Timely.is) in
-    let t2 : Come 2 (checks l time request out) = passes 1 (checks l time request out) t1 in_time in
-    let t20 : Come 3 (checks l time request out) = passes 2 (checks l time request out) t2 (told _ _ (sym c.room.ensures ∙ c.in-Passed.is)) in
-    let t10 : Come 4 (checks l time request out) = passes 3 (checks l time request out) t20 (ap not (found_told _ _ _ (sym c.reference.ensures ∙ c.in-At.is))) in
-    let t11 : Come 5 (checks l time request out) = passes 4 (checks l time request out) t10 (life_told _ _ _ (rw (record_is l found_at c.at.ensures) at (sym c.check_life.ensures ∙ c.in-Alive.is))) in
-    let t12 : Come 6 (checks l time request out) = passes 5 (checks l time request out) t11 (told _ _ (sym c.given.ensures ∙ c.in-Passed-given.is)) in
-    let t7 : Come 7 (checks l time request out) = passes 6 (checks l time request out) t12 (told _ _ (sym c.check_fresh.ensures ∙ c.in-Passed-check_fresh.is)) in
+    let t = come7 l c.args.time request c.args.out.now (sym c.in-Sound.ensures) (sym c.in-Timely.ensures) (sym c.in-Passed.ensures) (sym c.in-At.ensures) c.at.ensures (sym c.in-Alive.ensures) (sym c.in-Passed-given.ensures) (sym c.in-Passed-check_fresh.ensures) in
     c.consent_at.ensures
-    ∙ sym (acceptance l time request out t7 ∙ decide_yes l time request out _ c.if-yes.true found_at)
+    ∙ sym (acceptance _ _ _ _ t ∙ decide_yes l c.args.time request c.args.out.now _ c.if-yes.true (found_place _ _ _ (sym c.in-At.ensures)))
 
 pub decline_at-requires : goal.decline_at-requires
-decline_at-requires c = found_inside (is_reference c.args.reference.now c.args.client.now) _ _ (sym c.reference.ensures ∙ c.in-At.is)
+decline_at-requires c = found_inside (is_reference c.args.reference.now c.args.client.now) _ _ (sym c.in-At.ensures)
 
 pub returns : goal.returns
-unfolding decide_checks
 returns c =
     let l = c.args.ledger.now in
-    let time = c.args.time in
     let request : DecideRequest = record { reference = c.args.reference.now; client = c.args.client.now; yes = c.args.yes; holder = c.args.holder; fresh = c.args.fresh.now } in
-    let out = c.args.out.now in
-    let found_at : (place l time request out) ≡ c.in-At.k = found_place _ _ _ (sym c.reference.ensures ∙ c.in-At.is) in
-    let t1 : Come 1 (checks l time request out) = passes 0 (checks l time request out) refl (ap not (sound_told _ _ (sym c.check.ensures ∙ c.in-Sound.is))) in
-    let in_time : untimely l time ≡ false = time_told _ _ _ (sym c.check-2.ensures ∙ c.in-Timely.is) in
-    let t2 : Come 2 (checks l time request out) = passes 1 (checks l time request out) t1 in_time in
-    let t20 : Come 3 (checks l time request out) = passes 2 (checks l time request out) t2 (told _ _ (sym c.room.ensures ∙ c.in-Passed.is)) in
-    let t10 : Come 4 (checks l time request out) = passes 3 (checks l time request out) t20 (ap not (found_told _ _ _ (sym c.reference.ensures ∙ c.in-At.is))) in
-    let t11 : Come 5 (checks l time request out) = passes 4 (checks l time request out) t10 (life_told _ _ _ (rw (record_is l found_at c.at.ensures) at (sym c.check_life.ensures ∙ c.in-Alive.is))) in
-    let t12 : Come 6 (checks l time request out) = passes 5 (checks l time request out) t11 (told _ _ (sym c.given.ensures ∙ c.in-Passed-given.is)) in
-    let t7 : Come 7 (checks l time request out) = passes 6 (checks l time request out) t12 (told _ _ (sym c.check_fresh.ensures ∙ c.in-Passed-check_fresh.is)) in
+    let t = come7 l c.args.time request c.args.out.now (sym c.in-Sound.ensures) (sym c.in-Timely.ensures) (sym c.in-Passed.ensures) (sym c.in-At.ensures) c.at.ensures (sym c.in-Alive.ensures) (sym c.in-Passed-given.ensures) (sym c.in-Passed-check_fresh.ensures) in
     c.decline_at.ensures
-    ∙ sym (acceptance l time request out t7 ∙ decide_no l time request out _ c.if-yes.false found_at)
+    ∙ sym (acceptance _ _ _ _ t ∙ decide_no l c.args.time request c.args.out.now _ c.if-yes.false (found_place _ _ _ (sym c.in-At.ensures)))

@@ -13,9 +13,8 @@ returns-then-not-has_room c =
 
 pub spell-n-requires : goal.spell-n-requires
 spell-n-requires c =
-    let q = c in
-    let a = q.args in
-    let h : 2 * length a.client.now + length a.key.now ≤ length a.out.now = leb-true (2 * length a.client.now + length a.key.now) (length a.out.now) (sym q.has_room.ensures ∙ q.if-not-has_room.false) in
+    let a = c.args in
+    let h : 2 * length a.client.now + length a.key.now ≤ length a.out.now = leb-true (2 * length a.client.now + length a.key.now) (length a.out.now) (sym c.has_room.ensures ∙ c.if-not-has_room.false) in
     omega arith
 
 pub returns-then-out-n : goal.returns-then-out-n
@@ -26,9 +25,8 @@ returns-then-out-n c =
 
 pub spell-requires : goal.spell-requires
 spell-requires c =
-    let q = c in
-    let a = q.args in
-    let h : 2 * length a.client.now + length a.key.now ≤ length a.out.now = leb-true (2 * length a.client.now + length a.key.now) (length a.out.now) (sym q.has_room.ensures ∙ q.if-not-has_room.false) in
+    let a = c.args in
+    let h : 2 * length a.client.now + length a.key.now ≤ length a.out.now = leb-true (2 * length a.client.now + length a.key.now) (length a.out.now) (sym c.has_room.ensures ∙ c.if-not-has_room.false) in
     omega arith
 
 pub returns : goal.returns

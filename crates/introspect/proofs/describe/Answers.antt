@@ -37,22 +37,16 @@ fields r out a x id key who until bits e1 e2 e3 e4 e5 w = rw (e1, e2, e3, e4, e5
 
 pub returns-in_default : goal.returns-in_default
 returns-in_default c =
-    let b = c in
-    unknown _ _ _ _ _ _ (sym b.token.ensures ∙ b.in_default.is) c.inactive.ensures
+    unknown _ _ _ _ _ _ (sym c.token.ensures ∙ c.in_default.is) c.inactive.ensures
 
 pub returns-in_default-check_life : goal.returns-in_default-check_life
 returns-in_default-check_life c =
-    let b = c in
-    let r = b in
-    dead _ _ _ _ _ _ _ _ (sym r.token.ensures ∙ r.in-At.is) r.at-r.ensures
-    (sym b.check_life.ensures ∙ b.in_default-check_life.is) c.inactive-in_default-check_life.ensures
+    dead _ _ _ _ _ _ _ _ (sym c.token.ensures ∙ c.in-At.is) c.at-r.ensures
+    (sym c.check_life.ensures ∙ c.in_default-check_life.is) c.inactive-in_default-check_life.ensures
 
 pub returns : goal.returns
 returns c =
-    let f = c in
-    let b = f in
-    let r = b in
-    alive _ _ _ _ _ _ _ _ (sym r.token.ensures ∙ r.in-At.is) r.at-r.ensures
-    (sym b.check_life.ensures ∙ b.in-Alive.is)
-    (fields r.at-r.result.now _ _ _ _ _ _ _ _ f.client.ensures f.holder.ensures f.expiry.ensures f.scope.ensures f.bound_key.ensures
+    alive _ _ _ _ _ _ _ _ (sym c.token.ensures ∙ c.in-At.is) c.at-r.ensures
+    (sym c.check_life.ensures ∙ c.in-Alive.is)
+    (fields c.at-r.result.now _ _ _ _ _ _ _ _ c.client.ensures c.holder.ensures c.expiry.ensures c.scope.ensures c.bound_key.ensures
     c.live.ensures)

@@ -1,4 +1,4 @@
-use Rattle.std.proofs.Common.{List, ap, false, not, refl, sym, true, ℕ, ◌∙◌, ◌≡◌}
+use Rattle.std.proofs.Common.{List, ap, eqb, not, refl, sym, true, ℕ, ◌∙◌, ◌≡◌}
 use Rattle.desk.proofs.Tests.{told}
 use Rattle.desk.proofs.Turns.{nth, Come, passes, stops, all_pass}
 use Rattle.desk.specs.Answers.{answer_of}
@@ -6,140 +6,141 @@ use Rattle.desk.specs.Checks.{Check, Verdict, scope_fits}
 use Rattle.desk.specs.Requests.{ResourceRequest}
 use Rattle.desk.specs.Resource.{token_place, resource_checks, read_by, look}
 use Rattle.desk.specs.Tests.{fails_when}
-use Rattle.desk.specs.declared.answer.Reading.{Reading}
 use Rattle.desk.specs.declared.answer.Reading.TheVariants.{Granted, Refused}
 use Rattle.desk.specs.declared.check.Test.{Test}
 use Rattle.ledger.proofs.Tests.{sound_told, time_told, life_told, found_told, found_place}
-use Rattle.ledger.specs.Checks.{untimely}
-use Rattle.ledger.specs.Fields.{rec, scope}
+use Rattle.ledger.specs.Checks.{check_sound, check_time, check_life, found, is_token}
+use Rattle.ledger.specs.Fields.{rec, scope, holder}
+use Rattle.desk.specs.declared.check.Test.TheVariants.{Passed}
+use Rattle.ledger.specs.declared.clock.Timing.TheVariants.{Timely}
+use Rattle.ledger.specs.declared.find.Found.TheVariants.{At}
+use Rattle.ledger.specs.declared.record.Life.TheVariants.{Alive}
+use Rattle.ledger.specs.declared.sound.Soundness.TheVariants.{Sound}
 use Rattle.resource.proofs.look.Goals as goal
 
-abbrev place : (l : List ℕ) (time : ℕ) (request : ResourceRequest) → ℕ
-place l time request = token_place l request
-
-abbrev found_record : (l : List ℕ) (time : ℕ) (request : ResourceRequest) → List ℕ
-found_record l time request = rec l (place l time request)
-
-abbrev checks : (l : List ℕ) (time : ℕ) (request : ResourceRequest) → List Check
-checks l time request = resource_checks l time request (place l time request)
-
-abbrev outcome : (l : List ℕ) (time : ℕ) (request : ResourceRequest) → Reading
-outcome l time request = look l time request
-
--- the check whose turn has come fails: its row is answered
-refusal : (l : List ℕ) (time : ℕ) (request : ResourceRequest) (n : ℕ) → Come n (checks l time request) → (nth n (checks l time request)).holds ≡ true → Refused (nth n (checks l time request)).why ≡ outcome l time request
-unfolding look
-refusal l time request n t h = sym (ap (λ (v : Verdict). read_by v (found_record l time request)) (stops n (checks l time request) t h))
-
--- none is left: the reading is granted
-acceptance : (l : List ℕ) (time : ℕ) (request : ResourceRequest) → Come 7 (checks l time request) → outcome l time request ≡ Granted (answer_of (found_record l time request))
-unfolding look resource_checks
-acceptance l time request t = ap (λ (v : Verdict). read_by v (found_record l time request)) (all_pass 7 (checks l time request) t refl)
+-- a record that is read where the token is found stands at the token's place
+record_is : (l : List ℕ) (request : ResourceRequest) {k : ℕ} {r : List ℕ} → found (is_token request.token) l ≡ At k → r ≡ rec l k
+    → r ≡ rec l (token_place l request)
+record_is l request f p = p ∙ ap (rec l) (sym (found_place _ _ _ f))
 
 -- the granted bits are the record's
-bits : (request : ResourceRequest) {r s : List ℕ} {n : ℕ} {a b : Test} → r ≡ s → n ≡ scope r → a ≡ fails_when (not (scope_fits request.scope n)) → a ≡ b
-    → fails_when (not (scope_fits request.scope (scope s))) ≡ b
-bits request p h e f = ap (λ (n : ℕ). fails_when (not (scope_fits request.scope n))) (sym (h ∙ ap scope p)) ∙ sym e ∙ f
+bits : (asked : ℕ) {r s : List ℕ} {n : ℕ} {a : Test} → r ≡ s → n ≡ scope r → fails_when (not (scope_fits asked n)) ≡ a
+    → fails_when (not (scope_fits asked (scope s))) ≡ a
+bits asked p h f = ap (λ (n : ℕ). fails_when (not (scope_fits asked n))) (sym (h ∙ ap scope p)) ∙ f
+
+module _ (l : List ℕ) (time : ℕ) (request : ResourceRequest) where
+  abbrev found_record : List ℕ
+  found_record = rec l (token_place l request)
+
+  abbrev checks : List Check
+  checks = resource_checks l time request (token_place l request)
+
+  -- the check whose turn has come fails: its row is answered
+  refusal : (n : ℕ) → Come n checks → (nth n checks).holds ≡ true → Refused (nth n checks).why ≡ look l time request
+  unfolding look
+  refusal n t h = sym (ap (λ (v : Verdict). read_by v found_record) (stops n checks t h))
+
+  -- none is left: the reading is granted
+  acceptance : Come 7 checks → look l time request ≡ Granted (answer_of found_record)
+  unfolding look resource_checks
+  acceptance t = ap (λ (v : Verdict). read_by v found_record) (all_pass 7 checks t refl)
+
+  -- what has passed, check by check, and that the turn has come to the next one
+  module _ (sound : check_sound l ≡ Sound) where
+    come1 : Come 1 checks
+    unfolding resource_checks
+    come1 = passes 0 checks refl (ap not (sound_told _ _ sound))
+
+    module _ (timely : check_time l time ≡ Timely) where
+      come2 : Come 2 checks
+      unfolding resource_checks
+      come2 = passes 1 checks come1 (time_told _ _ _ timely)
+
+      module _ {k : ℕ} (here : found (is_token request.token) l ≡ At k) where
+        come3 : Come 3 checks
+        unfolding resource_checks
+        come3 = passes 2 checks come2 (ap not (found_told _ _ _ here))
+
+        module _ {r : List ℕ} (read : r ≡ rec l k) (alive : check_life r time ≡ Alive) where
+          come4 : Come 4 checks
+          unfolding resource_checks
+          come4 = passes 3 checks come3 (life_told _ _ _ (rw (record_is l request here read) at alive))
+
+          module _ (bound : fails_when (nth 4 checks).holds ≡ Passed) where
+            come5 : Come 5 checks
+            unfolding resource_checks
+            come5 = passes 4 checks come4 (told _ _ bound)
+
+            module _ {n : ℕ} (granted : n ≡ scope r) (within : fails_when (not (scope_fits request.scope n)) ≡ Passed) where
+              come6 : Come 6 checks
+              unfolding resource_checks
+              come6 = passes 5 checks come5 (told _ _ (bits request.scope (record_is l request here read) granted within))
+
+              come7 : fails_when (not (eqb (holder r) request.holder)) ≡ Passed → Come 7 checks
+              unfolding resource_checks
+              come7 held = passes 6 checks come6 (told _ _ (rw (record_is l request here read) at held))
+
+-- ---- the returns
 
 pub returns-in_default : goal.returns-in_default
 unfolding resource_checks
 returns-in_default c =
-    let l = c.args.ledger.now in
-    let time = c.args.time in
-    let request : ResourceRequest = record { token = c.args.token.now; presented = c.args.presented.now; scope = c.args.scope; holder = c.args.holder } in
-    refusal l time request 0 refl (ap not (sound_told _ _ (sym c.check.ensures ∙ c.in_default.is)))
+    refusal _ _ _ 0 refl
+    (ap not (sound_told _ _ (sym c.in_default.ensures)))
 
 pub returns-in_default-check : goal.returns-in_default-check
 unfolding resource_checks
 returns-in_default-check c =
-    let l = c.args.ledger.now in
-    let time = c.args.time in
-    let request : ResourceRequest = record { token = c.args.token.now; presented = c.args.presented.now; scope = c.args.scope; holder = c.args.holder } in
-    let t1 : Come 1 (checks l time request) = passes 0 (checks l time request) refl (ap not (sound_told _ _ (sym c.check.ensures ∙ c.in-Sound.is))) in
-    refusal l time request 1 t1 (time_told _ _ _ (sym c.check-2.ensures ∙ c.in_default-check.is))
+    refusal _ _ _ 1 (come1 _ _ _ (sym c.in-Sound.ensures))
+    (time_told _ _ _ (sym c.in_default-check.ensures))
 
 pub returns-in_default-token : goal.returns-in_default-token
 unfolding resource_checks
 returns-in_default-token c =
-    let l = c.args.ledger.now in
-    let time = c.args.time in
-    let request : ResourceRequest = record { token = c.args.token.now; presented = c.args.presented.now; scope = c.args.scope; holder = c.args.holder } in
-    let t1 : Come 1 (checks l time request) = passes 0 (checks l time request) refl (ap not (sound_told _ _ (sym c.check.ensures ∙ c.in-Sound.is))) in
-    let in_time : untimely l time ≡ false = time_told _ _ _ (sym c.check-2.ensures ∙ c.in-Timely.is) in
-    let t2 : Come 2 (checks l time request) = passes 1 (checks l time request) t1 in_time in
-    refusal l time request 2 t2 (ap not (found_told _ _ _ (sym c.token.ensures ∙ c.in_default-token.is)))
+    refusal _ _ _ 2 (come2 _ _ _ (sym c.in-Sound.ensures) (sym c.in-Timely.ensures))
+    (ap not (found_told _ _ _ (sym c.in_default-token.ensures)))
 
 pub returns-in_default-check_life : goal.returns-in_default-check_life
 unfolding resource_checks
 returns-in_default-check_life c =
     let l = c.args.ledger.now in
-    let time = c.args.time in
     let request : ResourceRequest = record { token = c.args.token.now; presented = c.args.presented.now; scope = c.args.scope; holder = c.args.holder } in
-    let t1 : Come 1 (checks l time request) = passes 0 (checks l time request) refl (ap not (sound_told _ _ (sym c.check.ensures ∙ c.in-Sound.is))) in
-    let in_time : untimely l time ≡ false = time_told _ _ _ (sym c.check-2.ensures ∙ c.in-Timely.is) in
-    let t2 : Come 2 (checks l time request) = passes 1 (checks l time request) t1 in_time in
-    let t17 : Come 3 (checks l time request) = passes 2 (checks l time request) t2 (ap not (found_told _ _ _ (sym c.token.ensures ∙ c.in-At.is))) in
-    let record_is : c.at-r.result.now ≡ (found_record l time request) = c.at-r.ensures ∙ ap (rec l) (sym (found_place _ _ _ (sym c.token.ensures ∙ c.in-At.is))) in
-    refusal l time request 3 t17 (life_told _ _ _ (rw record_is at (sym c.check_life.ensures ∙ c.in_default-check_life.is)))
+    let read = record_is l request (sym c.in-At.ensures) c.at-r.ensures in
+    refusal l c.args.time request 3 (come3 _ _ _ (sym c.in-Sound.ensures) (sym c.in-Timely.ensures) (sym c.in-At.ensures))
+    (life_told _ _ _ (rw read at (sym c.in_default-check_life.ensures)))
 
 pub returns-in_default-bound : goal.returns-in_default-bound
 unfolding resource_checks
 returns-in_default-bound c =
     let l = c.args.ledger.now in
-    let time = c.args.time in
     let request : ResourceRequest = record { token = c.args.token.now; presented = c.args.presented.now; scope = c.args.scope; holder = c.args.holder } in
-    let record_is : c.at-r.result.now ≡ (found_record l time request) = c.at-r.ensures ∙ ap (rec l) (sym (found_place _ _ _ (sym c.token.ensures ∙ c.in-At.is))) in
-    let t1 : Come 1 (checks l time request) = passes 0 (checks l time request) refl (ap not (sound_told _ _ (sym c.check.ensures ∙ c.in-Sound.is))) in
-    let in_time : untimely l time ≡ false = time_told _ _ _ (sym c.check-2.ensures ∙ c.in-Timely.is) in
-    let t2 : Come 2 (checks l time request) = passes 1 (checks l time request) t1 in_time in
-    let t17 : Come 3 (checks l time request) = passes 2 (checks l time request) t2 (ap not (found_told _ _ _ (sym c.token.ensures ∙ c.in-At.is))) in
-    let t11 : Come 4 (checks l time request) = passes 3 (checks l time request) t17 (life_told _ _ _ (rw record_is at (sym c.check_life.ensures ∙ c.in-Alive.is))) in
-    refusal l time request 4 t11 (told (nth 4 (checks l time request)).holds _ (rw record_is at (sym c.bound.ensures ∙ c.in_default-bound.is)))
+    let read = record_is l request (sym c.in-At.ensures) c.at-r.ensures in
+    refusal l c.args.time request 4 (come4 _ _ _ (sym c.in-Sound.ensures) (sym c.in-Timely.ensures) (sym c.in-At.ensures) c.at-r.ensures (sym c.in-Alive.ensures))
+    (told _ _ (rw read at (sym c.in_default-bound.ensures)))
 
 pub returns-in_default-within : goal.returns-in_default-within
 unfolding resource_checks
 returns-in_default-within c =
     let l = c.args.ledger.now in
-    let time = c.args.time in
     let request : ResourceRequest = record { token = c.args.token.now; presented = c.args.presented.now; scope = c.args.scope; holder = c.args.holder } in
-    let record_is : c.at-r.result.now ≡ (found_record l time request) = c.at-r.ensures ∙ ap (rec l) (sym (found_place _ _ _ (sym c.token.ensures ∙ c.in-At.is))) in
-    let t1 : Come 1 (checks l time request) = passes 0 (checks l time request) refl (ap not (sound_told _ _ (sym c.check.ensures ∙ c.in-Sound.is))) in
-    let in_time : untimely l time ≡ false = time_told _ _ _ (sym c.check-2.ensures ∙ c.in-Timely.is) in
-    let t2 : Come 2 (checks l time request) = passes 1 (checks l time request) t1 in_time in
-    let t17 : Come 3 (checks l time request) = passes 2 (checks l time request) t2 (ap not (found_told _ _ _ (sym c.token.ensures ∙ c.in-At.is))) in
-    let t11 : Come 4 (checks l time request) = passes 3 (checks l time request) t17 (life_told _ _ _ (rw record_is at (sym c.check_life.ensures ∙ c.in-Alive.is))) in
-    let t18 : Come 5 (checks l time request) = passes 4 (checks l time request) t11 (told (nth 4 (checks l time request)).holds _ (rw record_is at (sym c.bound.ensures ∙ c.in-Passed.is))) in
-    refusal l time request 5 t18 (told (nth 5 (checks l time request)).holds _ (bits request record_is c.scope.ensures c.within.ensures c.in_default-within.is))
+    let read = record_is l request (sym c.in-At.ensures) c.at-r.ensures in
+    refusal l c.args.time request 5 (come5 _ _ _ (sym c.in-Sound.ensures) (sym c.in-Timely.ensures) (sym c.in-At.ensures) c.at-r.ensures (sym c.in-Alive.ensures) (rw read at (sym c.in-Passed.ensures)))
+    (told _ _ (bits c.args.scope read c.scope.ensures (sym c.in_default-within.ensures)))
 
 pub returns-in_default-held : goal.returns-in_default-held
 unfolding resource_checks
 returns-in_default-held c =
     let l = c.args.ledger.now in
-    let time = c.args.time in
     let request : ResourceRequest = record { token = c.args.token.now; presented = c.args.presented.now; scope = c.args.scope; holder = c.args.holder } in
-    let record_is : c.at-r.result.now ≡ (found_record l time request) = c.at-r.ensures ∙ ap (rec l) (sym (found_place _ _ _ (sym c.token.ensures ∙ c.in-At.is))) in
-    let t1 : Come 1 (checks l time request) = passes 0 (checks l time request) refl (ap not (sound_told _ _ (sym c.check.ensures ∙ c.in-Sound.is))) in
-    let in_time : untimely l time ≡ false = time_told _ _ _ (sym c.check-2.ensures ∙ c.in-Timely.is) in
-    let t2 : Come 2 (checks l time request) = passes 1 (checks l time request) t1 in_time in
-    let t17 : Come 3 (checks l time request) = passes 2 (checks l time request) t2 (ap not (found_told _ _ _ (sym c.token.ensures ∙ c.in-At.is))) in
-    let t11 : Come 4 (checks l time request) = passes 3 (checks l time request) t17 (life_told _ _ _ (rw record_is at (sym c.check_life.ensures ∙ c.in-Alive.is))) in
-    let t18 : Come 5 (checks l time request) = passes 4 (checks l time request) t11 (told (nth 4 (checks l time request)).holds _ (rw record_is at (sym c.bound.ensures ∙ c.in-Passed.is))) in
-    let t6 : Come 6 (checks l time request) = passes 5 (checks l time request) t18 (told (nth 5 (checks l time request)).holds _ (bits request record_is c.scope.ensures c.within.ensures c.in-Passed-within.is)) in
-    refusal l time request 6 t6 (told (nth 6 (checks l time request)).holds _ (rw record_is at (sym c.held.ensures ∙ c.in_default-held.is)))
+    let read = record_is l request (sym c.in-At.ensures) c.at-r.ensures in
+    refusal l c.args.time request 6 (come6 _ _ _ (sym c.in-Sound.ensures) (sym c.in-Timely.ensures) (sym c.in-At.ensures) c.at-r.ensures (sym c.in-Alive.ensures) (rw read at (sym c.in-Passed.ensures)) c.scope.ensures (sym c.in-Passed-within.ensures))
+    (told _ _ (rw read at (sym c.in_default-held.ensures)))
 
 pub returns : goal.returns
 unfolding resource_checks
 returns c =
     let l = c.args.ledger.now in
-    let time = c.args.time in
     let request : ResourceRequest = record { token = c.args.token.now; presented = c.args.presented.now; scope = c.args.scope; holder = c.args.holder } in
-    let record_is : c.at-r.result.now ≡ (found_record l time request) = c.at-r.ensures ∙ ap (rec l) (sym (found_place _ _ _ (sym c.token.ensures ∙ c.in-At.is))) in
-    let t1 : Come 1 (checks l time request) = passes 0 (checks l time request) refl (ap not (sound_told _ _ (sym c.check.ensures ∙ c.in-Sound.is))) in
-    let in_time : untimely l time ≡ false = time_told _ _ _ (sym c.check-2.ensures ∙ c.in-Timely.is) in
-    let t2 : Come 2 (checks l time request) = passes 1 (checks l time request) t1 in_time in
-    let t17 : Come 3 (checks l time request) = passes 2 (checks l time request) t2 (ap not (found_told _ _ _ (sym c.token.ensures ∙ c.in-At.is))) in
-    let t11 : Come 4 (checks l time request) = passes 3 (checks l time request) t17 (life_told _ _ _ (rw record_is at (sym c.check_life.ensures ∙ c.in-Alive.is))) in
-    let t18 : Come 5 (checks l time request) = passes 4 (checks l time request) t11 (told (nth 4 (checks l time request)).holds _ (rw record_is at (sym c.bound.ensures ∙ c.in-Passed.is))) in
-    let t6 : Come 6 (checks l time request) = passes 5 (checks l time request) t18 (told (nth 5 (checks l time request)).holds _ (bits request record_is c.scope.ensures c.within.ensures c.in-Passed-within.is)) in
-    let t19 : Come 7 (checks l time request) = passes 6 (checks l time request) t6 (told (nth 6 (checks l time request)).holds _ (rw record_is at (sym c.held.ensures ∙ c.in-Passed-held.is))) in
-    ap Granted (c.of.ensures ∙ ap answer_of record_is) ∙ sym (acceptance l time request t19)
+    let read = record_is l request (sym c.in-At.ensures) c.at-r.ensures in
+    let t = come7 l c.args.time request (sym c.in-Sound.ensures) (sym c.in-Timely.ensures) (sym c.in-At.ensures) c.at-r.ensures (sym c.in-Alive.ensures) (rw read at (sym c.in-Passed.ensures)) c.scope.ensures (sym c.in-Passed-within.ensures) (sym c.in-Passed-held.ensures) in
+    ap Granted (c.of.ensures ∙ ap answer_of read) ∙ sym (acceptance _ _ _ t)

@@ -5,10 +5,8 @@ use Rattle.s256.proofs.matches.Goals as goal
 
 pub returns-then-same : goal.returns-then-same
 returns-then-same c =
-    let q = c in
-    ap match_if (sym c.if-same.true) ∙ matching_is _ _ q.digest.ensures q.base64url-text.ensures c.same.ensures
+    ap match_if (sym c.if-same.true) ∙ matching_is _ _ c.digest.ensures c.base64url-text.ensures c.same.ensures
 
 pub returns : goal.returns
 returns c =
-    let q = c in
-    ap match_if (sym c.if-same.false) ∙ matching_is _ _ q.digest.ensures q.base64url-text.ensures c.same.ensures
+    ap match_if (sym c.if-same.false) ∙ matching_is _ _ c.digest.ensures c.base64url-text.ensures c.same.ensures

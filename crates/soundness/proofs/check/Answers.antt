@@ -40,18 +40,12 @@ returns-then-not-values_apart c = simp (sym c.values_apart.ensures ∙ c.if-not-
 pub returns : goal.returns
 unfolding check_sound sound
 returns c =
-    let e6 = c in
-    let e5 = e6 in
-    let e4 = e5 in
-    let e3 = e4 in
-    let e2 = e3 in
-    let e1 = e2 in
     simp (
-      sym e1.is_sized.ensures ∙ e1.if-not-is_sized.false,
-      sym e2.is_head_sound.ensures ∙ e2.if-not-is_head_sound.false,
-      sym e3.next_number.ensures,
-      sym e3.are_records_sound.ensures ∙ e3.if-not-are_records_sound.false,
-      sym e4.own_apart.ensures ∙ e4.if-not-own_apart.false,
-      sym e5.grants_apart.ensures ∙ e5.if-not-grants_apart.false,
-      sym e6.values_apart.ensures ∙ e6.if-not-values_apart.false,
+      sym c.is_sized.ensures ∙ c.if-not-is_sized.false,
+      sym c.is_head_sound.ensures ∙ c.if-not-is_head_sound.false,
+      sym c.next_number.ensures,
+      sym c.are_records_sound.ensures ∙ c.if-not-are_records_sound.false,
+      sym c.own_apart.ensures ∙ c.if-not-own_apart.false,
+      sym c.grants_apart.ensures ∙ c.if-not-grants_apart.false,
+      sym c.values_apart.ensures ∙ c.if-not-values_apart.false,
     )

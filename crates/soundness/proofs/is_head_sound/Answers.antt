@@ -15,11 +15,9 @@ returns-then-next_number-lt1 c = simp (sym c.next_number.ensures, lt-leb _ _ c.i
 pub returns : goal.returns
 unfolding head_sound
 returns c =
-    let e2 = c in
-    let e1 = e2 in
     simp (
-      sym e1.clock.ensures,
-      lt-ltb _ _ e1.if-clock-ge-LIMIT.false,
-      sym e2.next_number.ensures,
-      le-leb _ _ e2.if-next_number-lt1.false,
+      sym c.clock.ensures,
+      lt-ltb _ _ c.if-clock-ge-LIMIT.false,
+      sym c.next_number.ensures,
+      le-leb _ _ c.if-next_number-lt1.false,
     ) c.is_zero.ensures

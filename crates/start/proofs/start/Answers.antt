@@ -8,7 +8,4 @@ returns-in_default c = start_1 _ _ (size_told _ _ (sym c.check_size.ensures ∙ 
 
 pub returns : goal.returns
 returns c =
-    let c6 = c in
-    let c8 = c6 in
-    let c10 = c8 in
-    start_done _ _ _ (size_told _ _ (sym c10.check_size.ensures ∙ c8.in-Right.is)) c6.clear.ensures c.set_next.ensures
+    start_done _ _ _ (size_told _ _ (sym c.check_size.ensures ∙ c.in-Right.is)) c.clear.ensures c.set_next.ensures

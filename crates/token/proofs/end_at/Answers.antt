@@ -5,17 +5,12 @@ use Rattle.token.proofs.end_at.Goals as goal
 
 pub overflow_add-a : goal.overflow_add-a
 overflow_add-a c =
-    let s = c in
-    omega (arith, lent_within s.args.ledger.now s.args.k c.address-a.result s.requires (omega arith) c.address-a.ensures)
+    omega (arith, lent_within c.args.ledger.now c.args.k c.address-a.result c.requires (omega arith) c.address-a.ensures)
 
 pub slice_bounds-clear-end : goal.slice_bounds-clear-end
 slice_bounds-clear-end c =
-    let s = c in
-    lent_within s.args.ledger.now s.args.k c.address-a.result s.requires (omega arith) c.address-a.ensures
+    lent_within c.args.ledger.now c.args.k c.address-a.result c.requires (omega arith) c.address-a.ensures
 
 pub returns : goal.returns
 returns c =
-    let r = c in
-    let b = r in
-    let s = b in
-    end_written s.args.ledger.now s.args.time s.args.k b.address-a.result s.requires (omega arith) b.address-a.ensures _ _ r.clear.ensures c.set_clock.ensures
+    end_written c.args.ledger.now c.args.time c.args.k c.address-a.result c.requires (omega arith) c.address-a.ensures _ _ c.clear.ensures c.set_clock.ensures

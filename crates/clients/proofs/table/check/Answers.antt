@@ -19,11 +19,9 @@ returns-then-not-ids_distinct c = simp (sound_order, sym c.ids_distinct.ensures 
 pub returns : goal.returns
 unfolding check_table
 returns c =
-    let r = c in
-    let l = r in
     simp (
       sound_order,
-      sym l.length_right.ensures ∙ l.if-not-length_right.false,
-      sym r.sound_records.ensures ∙ r.if-not-sound_records.false,
+      sym c.length_right.ensures ∙ c.if-not-length_right.false,
+      sym c.sound_records.ensures ∙ c.if-not-sound_records.false,
       sym c.ids_distinct.ensures ∙ c.if-not-ids_distinct.false,
     )

@@ -18,15 +18,12 @@ returns-then-not-fits c = simp (sym c.fits.ensures ∙ c.if-not-fits.true, and-f
 pub returns : goal.returns
 unfolding sound_record id_given key_given rest_zero
 returns c =
-    let f = c in
-    let k = f in
-    let i = k in
     simp (
-      sym i.cut.ensures,
-      sym i.is_zero.ensures ∙ i.if-is_zero.false,
-      sym k.cut-2.ensures,
-      sym k.is_zero-2.ensures ∙ k.if-is_zero-2.false,
-      sym f.fits.ensures ∙ f.if-not-fits.false,
+      sym c.cut.ensures,
+      sym c.is_zero.ensures ∙ c.if-is_zero.false,
+      sym c.cut-2.ensures,
+      sym c.is_zero-2.ensures ∙ c.if-is_zero-2.false,
+      sym c.fits.ensures ∙ c.if-not-fits.false,
       sym c.cut-3.ensures,
     )
     c.is_zero-3.ensures

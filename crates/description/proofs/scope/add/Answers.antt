@@ -11,9 +11,8 @@ returns-then-not-is_set c =
 
 pub returns-then-n-eq0 : goal.returns-then-n-eq0
 returns-then-n-eq0 c =
-    let q = c in
-    let a = q.args in
-    rw (added_set a.scope a.n a.i (sym q.is_set.ensures ∙ q.if-not-is_set.false), first_name a.n (scope_name a.i) (omega arith))
+    let a = c.args in
+    rw (added_set a.scope a.n a.i (sym c.is_set.ensures ∙ c.if-not-is_set.false), first_name a.n (scope_name a.i) (omega arith))
     c.name.ensures
 
 pub overflow_add-result : goal.overflow_add-result
@@ -24,7 +23,6 @@ overflow_add-result c =
 
 pub returns : goal.returns
 returns c =
-    let q = c in
-    let a = q.args in
-    rw (added_set a.scope a.n a.i (sym q.is_set.ensures ∙ q.if-not-is_set.false), later_name a.n (scope_name a.i) (λ e. omega arith))
+    let a = c.args in
+    rw (added_set a.scope a.n a.i (sym c.is_set.ensures ∙ c.if-not-is_set.false), later_name a.n (scope_name a.i) (λ e. omega arith))
     (after_one _ _ 32 _ c.put.ensures c.name-2.ensures)

@@ -14,5 +14,4 @@ returns-then-is_in-2 c = simp (sym c.is_in-2.ensures, c.if-is_in-2.true, or-true
 pub returns : goal.returns
 unfolding is_code
 returns c =
-    let e1 = c in
-    simp (sym e1.is_in.ensures, e1.if-is_in.false, sym c.is_in-2.ensures, c.if-is_in-2.false)
+    simp (sym c.is_in.ensures, c.if-is_in.false, sym c.is_in-2.ensures, c.if-is_in-2.false)

@@ -9,5 +9,4 @@ returns-then-not-is_in c = simp (sym c.is_in.ensures, c.if-not-is_in.true)
 pub returns : goal.returns
 unfolding is_reference
 returns c =
-    let e1 = c in
-    simp (sym e1.is_in.ensures, e1.if-not-is_in.false, sym c.is_with.ensures)
+    simp (sym c.is_in.ensures, c.if-not-is_in.false, sym c.is_with.ensures)

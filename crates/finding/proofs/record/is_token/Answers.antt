@@ -9,10 +9,9 @@ returns-then-not-is_in c = simp (sym c.is_in.ensures, c.if-not-is_in.true)
 pub returns : goal.returns
 unfolding is_token
 returns c =
-    let e1 = c in
     simp (
-      sym e1.is_in.ensures,
-      e1.if-not-is_in.false,
+      sym c.is_in.ensures,
+      c.if-not-is_in.false,
       sym c.token.ensures,
       sym c.same.ensures,
     )

@@ -9,11 +9,10 @@ returns-then-not-same c = simp (sym c.value.ensures, sym c.same.ensures, c.if-no
 pub returns : goal.returns
 unfolding is_with
 returns c =
-    let e1 = c in
     simp (
-      sym e1.value.ensures,
-      sym e1.same.ensures,
-      e1.if-not-same.false,
+      sym c.value.ensures,
+      sym c.same.ensures,
+      c.if-not-same.false,
       sym c.client.ensures,
       sym c.same-2.ensures,
     )

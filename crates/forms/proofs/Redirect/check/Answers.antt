@@ -16,12 +16,10 @@ returns-then-not-all_visible c = simp (sym c.all_visible.ensures ∙ c.if-not-al
 pub returns : goal.returns
 unfolding redirect_form redirect_formed redirect_prefix
 returns c =
-    let q = c in
-    let p = q in
     simp (
-      le-leb _ _ p.if-s-lt-LEAST.false,
-      le-leb _ _ p.if-s-gt-MOST.false,
-      sym q.same.ensures ∙ q.if-not-same.false,
+      le-leb _ _ c.if-s-lt-LEAST.false,
+      le-leb _ _ c.if-s-gt-MOST.false,
+      sym c.same.ensures ∙ c.if-not-same.false,
       sym c.all_visible.ensures ∙ c.if-not-all_visible.false,
     )
 

@@ -2,4 +2,4 @@ use Rattle.std.proofs.Common.{rules, ◌∙◌}
 use Rattle.frames.proofs.answer.write_answer.Goals as goal
 
 pub returns : goal.returns
-returns c = let q = c in (search rules, q.append.ensures.1 ∙ q.bytes.ensures)
+returns c = (search rules, c.append.ensures.1 ∙ c.bytes.ensures)

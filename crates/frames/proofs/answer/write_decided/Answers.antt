@@ -7,10 +7,9 @@ append-requires c = let h : length c.cut.result.now ≤ length c.args.redirect.n
 
 pub returns : goal.returns
 returns c =
-    let p6 = c in
-    let p5 = p6 in
+    let p5 = c in
     let p4 = p5 in
     let p3 = p4 in
     let p2 = p3 in
     let p1 = p2 in
-    (let h : length p5.cut.result.now ≤ length p1.args.redirect.now = part_most p1.args.redirect.now 0 p4.long.result _ p5.cut.ensures in omega arith, redirected _ _ p2.write_answer-answer.ensures.1 p3.append-length.ensures.1 p4.long.ensures p5.cut.ensures p6.append.ensures.1)
+    (let h : length p5.cut.result.now ≤ length p1.args.redirect.now = part_most p1.args.redirect.now 0 p4.long.result _ p5.cut.ensures in omega arith, redirected _ _ p2.write_answer-answer.ensures.1 p3.append-length.ensures.1 p4.long.ensures p5.cut.ensures c.append.ensures.1)

@@ -21,38 +21,31 @@ pub returns-in-Push : goal.returns-in-Push
 unfolding pushed
 returns-in-Push c =
     let a = c.args in
-    let p = c in
-    (search rules, by_call Push a.f.now a.ledger.now a.table.now p.in-Push.is (by_outcome p.push.ensures c.write_answer.ensures.1))
+    (search rules, by_call Push a.f.now a.ledger.now a.table.now c.in-Push.is (by_outcome c.push.ensures c.write_answer.ensures.1))
 
 pub returns-in-Decide : goal.returns-in-Decide
 unfolding decided
 returns-in-Decide c =
     let a = c.args in
-    let p3 = c in
-    let p2 = p3 in
-    let p1 = p2 in
-    (search rules, by_call Decide a.f.now a.ledger.now a.table.now p1.in-Decide.is (by_decision _ _ _ p2.decide-d.ensures p1.blank_redirect-redirect.ensures p3.write_decided.ensures.1))
+    (search rules, by_call Decide a.f.now a.ledger.now a.table.now c.in-Decide.is (by_decision _ _ _ c.decide-d.ensures c.blank_redirect-redirect.ensures c.write_decided.ensures.1))
 
 pub returns-in-Token : goal.returns-in-Token
 unfolding redeemed
 returns-in-Token c =
     let a = c.args in
-    let p = c in
-    (search rules, by_call Token a.f.now a.ledger.now a.table.now p.in-Token.is (by_outcome p.token.ensures c.write_answer-in-Token.ensures.1))
+    (search rules, by_call Token a.f.now a.ledger.now a.table.now c.in-Token.is (by_outcome c.token.ensures c.write_answer-in-Token.ensures.1))
 
 pub returns-in-Resource : goal.returns-in-Resource
 unfolding read
 returns-in-Resource c =
     let a = c.args in
-    let p = c in
-    (search rules, by_call Resource a.f.now a.ledger.now a.table.now p.in-Resource.is (by_outcome p.resource.ensures c.write_answer-in-Resource.ensures.1))
+    (search rules, by_call Resource a.f.now a.ledger.now a.table.now c.in-Resource.is (by_outcome c.resource.ensures c.write_answer-in-Resource.ensures.1))
 
 pub returns-in-Sweep : goal.returns-in-Sweep
 unfolding swept
 returns-in-Sweep c =
     let a = c.args in
-    let p = c in
-    (search rules, by_call Sweep a.f.now a.ledger.now a.table.now p.in-Sweep.is (by_sweeping p.sweep.ensures c.write_swept.ensures.1))
+    (search rules, by_call Sweep a.f.now a.ledger.now a.table.now c.in-Sweep.is (by_sweeping c.sweep.ensures c.write_swept.ensures.1))
 
 pub returns-in-Start : goal.returns-in-Start
 returns-in-Start c = (search rules, by_call Start _ _ _ c.in-Start.is refl)

@@ -14,16 +14,4 @@ value-fresh-requires c = cut_length c.args.f.now 66 32 _ c.cut-3.ensures (omega 
 
 pub returns : goal.returns
 returns c =
-    let p12 = c in
-    let p11 = p12 in
-    let p10 = p11 in
-    let p9 = p10 in
-    let p8 = p9 in
-    let p7 = p8 in
-    let p6 = p7 in
-    let p5 = p6 in
-    let p4 = p5 in
-    let p3 = p4 in
-    let p2 = p3 in
-    let p1 = p2 in
-    decide_asked p1.args.f.now p1.args.ledger.now p1.args.out.now (p3.id-client.ensures ∙ p2.cut.ensures) (p5.value-reference.ensures ∙ p4.cut-2.ensures) (p7.value-fresh.ensures ∙ p6.cut-3.ensures) (read_at p1.args.f.now 1 8 p8.from.ensures p9.read64.ensures) (read_at p1.args.f.now 58 8 p10.from-2.ensures p11.read64-2.ensures) p12.decide.ensures
+    decide_asked c.args.f.now c.args.ledger.now c.args.out.now (c.id-client.ensures ∙ c.cut.ensures) (c.value-reference.ensures ∙ c.cut-2.ensures) (c.value-fresh.ensures ∙ c.cut-3.ensures) (read_at c.args.f.now 1 8 c.from.ensures c.read64.ensures) (read_at c.args.f.now 58 8 c.from-2.ensures c.read64-2.ensures) c.decide.ensures

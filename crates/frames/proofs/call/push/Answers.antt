@@ -14,18 +14,4 @@ value-fresh-requires c = cut_length c.args.f.now 104 32 _ c.cut-3.ensures (omega
 
 pub returns : goal.returns
 returns c =
-    let p14 = c in
-    let p13 = p14 in
-    let p12 = p13 in
-    let p11 = p12 in
-    let p10 = p11 in
-    let p9 = p10 in
-    let p8 = p9 in
-    let p7 = p8 in
-    let p6 = p7 in
-    let p5 = p6 in
-    let p4 = p5 in
-    let p3 = p4 in
-    let p2 = p3 in
-    let p1 = p2 in
-    push_asked p1.args.f.now p1.args.ledger.now p1.args.table.now (p3.id-client.ensures ∙ p2.cut.ensures) (p5.value-key.ensures ∙ p4.cut-2.ensures) (p7.value-fresh.ensures ∙ p6.cut-3.ensures) (read_at p1.args.f.now 1 8 p8.from.ensures p9.read64.ensures) (read_at p1.args.f.now 57 4 p10.from-2.ensures p11.read32.ensures) p12.cut-4.ensures p13.from-3.ensures p14.push.ensures
+    push_asked c.args.f.now c.args.ledger.now c.args.table.now (c.id-client.ensures ∙ c.cut.ensures) (c.value-key.ensures ∙ c.cut-2.ensures) (c.value-fresh.ensures ∙ c.cut-3.ensures) (read_at c.args.f.now 1 8 c.from.ensures c.read64.ensures) (read_at c.args.f.now 57 4 c.from-2.ensures c.read32.ensures) c.cut-4.ensures c.from-3.ensures c.push.ensures

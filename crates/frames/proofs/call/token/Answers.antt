@@ -20,19 +20,4 @@ value-fresh-requires c = cut_length c.args.f.now 121 32 _ c.cut-5.ensures (omega
 
 pub returns : goal.returns
 returns c =
-    let p15 = c in
-    let p14 = p15 in
-    let p13 = p14 in
-    let p12 = p13 in
-    let p11 = p12 in
-    let p10 = p11 in
-    let p9 = p10 in
-    let p8 = p9 in
-    let p7 = p8 in
-    let p6 = p7 in
-    let p5 = p6 in
-    let p4 = p5 in
-    let p3 = p4 in
-    let p2 = p3 in
-    let p1 = p2 in
-    token_asked p1.args.f.now p1.args.ledger.now p1.args.table.now (p3.id-client.ensures ∙ p2.cut.ensures) (p5.value-key.ensures ∙ p4.cut-2.ensures) (p7.value-presented.ensures ∙ p6.cut-3.ensures) (p9.value-code.ensures ∙ p8.cut-4.ensures) (p11.value-fresh.ensures ∙ p10.cut-5.ensures) (read_at p1.args.f.now 1 8 p12.from.ensures p13.read64.ensures) p14.from-2.ensures p15.token.ensures
+    token_asked c.args.f.now c.args.ledger.now c.args.table.now (c.id-client.ensures ∙ c.cut.ensures) (c.value-key.ensures ∙ c.cut-2.ensures) (c.value-presented.ensures ∙ c.cut-3.ensures) (c.value-code.ensures ∙ c.cut-4.ensures) (c.value-fresh.ensures ∙ c.cut-5.ensures) (read_at c.args.f.now 1 8 c.from.ensures c.read64.ensures) c.from-2.ensures c.token.ensures

@@ -35,12 +35,11 @@ slice_bounds-serve-end c = sym (length-take-le _ _ (omega arith))
 pub returns : goal.returns
 returns c =
     let a = c.args in
-    let q = c in
     let d = c.decode in
     let desk = desk_in a.n a.m a.ledger.now a.table.now in
     let h : is_hex a.line.now ≡ true = sym d.ensures.0 ∙ c.if-not-decode.false in
     let m : length a.line.now ≤ line_most = omega arith in (
-      q.serve.ensures.0,
-      q.serve.ensures.1 ∙ ap (λ (f : List ℕ). place (serve (kind_of f) f desk) a.ledger.now a.table.now) (front_decoded a.line.now (replicate 320 0) h m d.ensures.1)
+      c.serve.ensures.0,
+      c.serve.ensures.1 ∙ ap (λ (f : List ℕ). place (serve (kind_of f) f desk) a.ledger.now a.table.now) (front_decoded a.line.now (replicate 320 0) h m d.ensures.1)
           ∙ ap (λ (s : Served). place s a.ledger.now a.table.now) (sym (line_bytes a.line.now desk m h)),
     )

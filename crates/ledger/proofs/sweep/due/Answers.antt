@@ -15,7 +15,6 @@ returns-then-time-expiry c = let e = lt-leb _ _ (rw c.expiry.ensures at c.if-tim
 pub returns : goal.returns
 unfolding due
 returns c =
-    let e1 = c in
     let e = le-leb _ _ (rw c.expiry.ensures at c.if-time-expiry.false) in
-    let f = sym e1.is_in.ensures ∙ e1.if-not-is_in.false in
+    let f = sym c.is_in.ensures ∙ c.if-not-is_in.false in
     (rw (f, e), omega arith)

@@ -5,28 +5,22 @@ use Rattle.ledger.proofs.sweep.sweep_at.Goals as goal
 
 pub overflow_add-a : goal.overflow_add-a
 overflow_add-a c =
-    let e = c in
-    omega (arith, lent_within e.args.l.now e.args.k c.address-a.result e.requires (omega arith) c.address-a.ensures)
+    omega (arith, lent_within c.args.l.now c.args.k c.address-a.result c.requires (omega arith) c.address-a.ensures)
 
 pub slice_bounds-clear-end : goal.slice_bounds-clear-end
 slice_bounds-clear-end c =
-    let e = c in
-    lent_within e.args.l.now e.args.k c.address-a.result e.requires (omega arith) c.address-a.ensures
+    lent_within c.args.l.now c.args.k c.address-a.result c.requires (omega arith) c.address-a.ensures
 
 pub returns-then-is_due : goal.returns-then-is_due
 returns-then-is_due c =
-    let b = c in
-    let d = b in
-    let e = d in
-    let a = e.args in
-    lent_back a.l.now a.k b.address-a.result e.requires (omega arith) b.address-a.ensures c.clear.new.s
-    ∙ swept_freed a.time a.l.now a.k _ _ e.requires
-    (rw d.at.ensures at (sym d.is_due.ensures ∙ b.if-is_due.true))
-    (lent_out a.l.now a.k b.address-a.result e.requires (omega arith) b.address-a.ensures)
+    let a = c.args in
+    lent_back a.l.now a.k c.address-a.result c.requires (omega arith) c.address-a.ensures c.clear.new.s
+    ∙ swept_freed a.time a.l.now a.k _ _ c.requires
+    (rw c.at.ensures at (sym c.is_due.ensures ∙ c.if-is_due.true))
+    (lent_out a.l.now a.k c.address-a.result c.requires (omega arith) c.address-a.ensures)
     c.clear.ensures
 
 pub returns-else-is_due : goal.returns-else-is_due
 returns-else-is_due c =
-    let d = c in
-    let a = d.args in
-    swept_kept a.time a.l.now a.k (rw d.at.ensures at (sym d.is_due.ensures ∙ c.if-is_due.false))
+    let a = c.args in
+    swept_kept a.time a.l.now a.k (rw c.at.ensures at (sym c.is_due.ensures ∙ c.if-is_due.false))

@@ -27,4 +27,4 @@ returns-then-s-gt-LEDGER c = simp (lt-leb _ _ c.if-s-gt-LEDGER.true, and-false)
 
 pub returns : goal.returns
 unfolding fits
-returns c = let p = c in let q = p in let a = q.args in sym (fits_last (held a.s a.line.now a.ledger.now a.table.now) q.if-line-ne-KEPT.false q.if-ledger-ne-LEDGER.false q.if-table-ne-TABLE.false p.if-s-gt-KEPT.false c.if-s-gt-LEDGER.false)
+returns c = let a = c.args in sym (fits_last (held a.s a.line.now a.ledger.now a.table.now) c.if-line-ne-KEPT.false c.if-ledger-ne-LEDGER.false c.if-table-ne-TABLE.false c.if-s-gt-KEPT.false c.if-s-gt-LEDGER.false)

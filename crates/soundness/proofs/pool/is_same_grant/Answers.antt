@@ -14,14 +14,12 @@ returns-then-is_in c = simp (sym c.is_in.ensures, c.if-is_in.true)
 pub returns : goal.returns
 unfolding same_grant
 returns c =
-    let e2 = c in
-    let e1 = e2 in
     simp (
-      sym e2.is_in.ensures,
-      e2.if-is_in.false,
-      sym e1.grant.ensures,
-      sym e1.grant-2.ensures,
-      eq-eqb _ _ e1.if-grant.false,
+      sym c.is_in.ensures,
+      c.if-is_in.false,
+      sym c.grant.ensures,
+      sym c.grant-2.ensures,
+      eq-eqb _ _ c.if-grant.false,
       sym c.is_in-2.ensures,
       and-true,
     )

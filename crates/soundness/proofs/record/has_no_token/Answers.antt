@@ -9,5 +9,4 @@ returns-then-not-is_zero c = simp (sym c.is_zero.ensures ∙ c.if-not-is_zero.tr
 pub returns : goal.returns
 unfolding no_token
 returns c =
-    let e1 = c in
-    simp (sym e1.is_zero.ensures ∙ e1.if-not-is_zero.false) c.is_zero-2.ensures
+    simp (sym c.is_zero.ensures ∙ c.if-not-is_zero.false) c.is_zero-2.ensures

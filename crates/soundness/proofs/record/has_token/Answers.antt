@@ -9,5 +9,4 @@ returns-then-is_zero c = simp (sym c.is_zero.ensures ∙ c.if-is_zero.true)
 pub returns : goal.returns
 unfolding some_token
 returns c =
-    let e1 = c in
-    simp (sym e1.is_zero.ensures ∙ e1.if-is_zero.false) (ap not c.is_zero-2.ensures)
+    simp (sym c.is_zero.ensures ∙ c.if-is_zero.false) (ap not c.is_zero-2.ensures)

@@ -19,11 +19,8 @@ returns-in_default c = simp (challenge_ill _ (sym c.check.ensures ∙ c.in_defau
 pub returns : goal.returns
 unfolding bytes_sound
 returns c =
-    let t = c in
-    let e2 = t in
-    let e1 = e2 in
     simp (
-      sym e1.is_zero.ensures ∙ e1.if-is_zero.false,
-      sym e2.is_zero-2.ensures ∙ e2.if-is_zero-2.false,
-      challenge_well _ (sym t.check.ensures ∙ t.in-Well.is),
+      sym c.is_zero.ensures ∙ c.if-is_zero.false,
+      sym c.is_zero-2.ensures ∙ c.if-is_zero-2.false,
+      challenge_well _ (sym c.check.ensures ∙ c.in-Well.is),
     ) c.is_redirect_sound.ensures

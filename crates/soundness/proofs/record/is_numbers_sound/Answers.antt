@@ -27,18 +27,13 @@ returns-then-scope-eq0 c = simp (sym c.scope.ensures, eq-eqb _ _ c.if-scope-eq0.
 pub returns : goal.returns
 unfolding numbers_sound
 returns c =
-    let e5 = c in
-    let e4 = e5 in
-    let e3 = e4 in
-    let e2 = e3 in
-    let e1 = e2 in
     simp (
-      sym e1.is_zero.ensures ∙ e1.if-not-is_zero.false,
-      sym e2.is_zero-2.ensures ∙ e2.if-not-is_zero-2.false,
-      sym e3.grant-number.ensures,
-      le-leb _ _ e3.if-number-lt1.false,
-      lt-ltb _ _ e4.if-next-number.false,
-      sym e5.scope.ensures,
-      ne_eqb _ _ e5.if-scope-eq0.false,
+      sym c.is_zero.ensures ∙ c.if-not-is_zero.false,
+      sym c.is_zero-2.ensures ∙ c.if-not-is_zero-2.false,
+      sym c.grant-number.ensures,
+      le-leb _ _ c.if-number-lt1.false,
+      lt-ltb _ _ c.if-next-number.false,
+      sym c.scope.ensures,
+      ne_eqb _ _ c.if-scope-eq0.false,
       sym c.expiry.ensures,
     )

@@ -10,10 +10,8 @@ returns-then-holder-eq0 c = simp (sym c.holder.ensures, eq-eqb _ _ c.if-holder-e
 
 pub returns : goal.returns
 returns c =
-    let e2 = c in
-    let e1 = e2 in
     simp (
-      sym e1.is_used_sound.ensures ∙ e1.if-not-is_used_sound.false,
-      sym e2.holder.ensures,
-      ne_eqb _ _ e2.if-holder-eq0.false,
+      sym c.is_used_sound.ensures ∙ c.if-not-is_used_sound.false,
+      sym c.holder.ensures,
+      ne_eqb _ _ c.if-holder-eq0.false,
     ) c.has_token.ensures

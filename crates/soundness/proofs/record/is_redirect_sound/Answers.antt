@@ -12,26 +12,21 @@ returns-then-n-gt-MOST c = simp (sym c.long-n.ensures.0, lt-leb _ _ c.if-n-gt-MO
 
 pub returns-in_default : goal.returns-in_default
 returns-in_default c =
-    let e2 = c in
-    let b = e2 in
-    let r = b.args.r.now in
-    let n = b.long-n.result in
+    let r = c.args.r.now in
+    let n = c.long-n.result in
     simp (
-      sym b.long-n.ensures.0,
+      sym c.long-n.ensures.0,
       redirect_part_ill r n (sym c.check.ensures ∙ c.in_default.is),
       and-false,
     )
 
 pub returns : goal.returns
 returns c =
-    let t = c in
-    let e2 = t in
-    let b = e2 in
-    let r = b.args.r.now in
-    let n = b.long-n.result in
+    let r = c.args.r.now in
+    let n = c.long-n.result in
     simp (
-      sym b.long-n.ensures.0,
-      le-leb _ _ e2.if-n-lt-LEAST.false,
-      le-leb _ _ e2.if-n-gt-MOST.false,
-      redirect_part_well r n (sym t.check.ensures ∙ t.in-Well.is),
+      sym c.long-n.ensures.0,
+      le-leb _ _ c.if-n-lt-LEAST.false,
+      le-leb _ _ c.if-n-gt-MOST.false,
+      redirect_part_well r n (sym c.check.ensures ∙ c.in-Well.is),
     ) (c.is_zero.ensures ∙ behind_part r n)

@@ -9,5 +9,4 @@ returns-then-not-is_numbers_sound c = simp (sym c.is_numbers_sound.ensures ∙ c
 pub returns : goal.returns
 unfolding used_sound
 returns c =
-    let e1 = c in
-    simp (sym e1.is_numbers_sound.ensures ∙ e1.if-not-is_numbers_sound.false) c.is_bytes_sound.ensures
+    simp (sym c.is_numbers_sound.ensures ∙ c.if-not-is_numbers_sound.false) c.is_bytes_sound.ensures

@@ -3,6 +3,4 @@ use Rattle.texts.proofs.decimal.write.Goals as goal
 
 pub returns : goal.returns
 returns c =
-    let q = c in
-    let p = q in
-    put_digits _ _ _ _ p.spell-from.result p.spell-from.ensures q.put.ensures
+    put_digits _ _ _ _ c.spell-from.result c.spell-from.ensures c.put.ensures

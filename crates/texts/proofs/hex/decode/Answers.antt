@@ -12,6 +12,5 @@ read-requires c = sym c.is_hex.ensures ∙ c.if-not-is_hex.false
 
 pub returns : goal.returns
 returns c =
-    let q = c in
-    let e = sym q.is_hex.ensures ∙ q.if-not-is_hex.false in
+    let e = sym c.is_hex.ensures ∙ c.if-not-is_hex.false in
     (sym e, c.read.ensures ∙ sym (over_hex _ _ e))
