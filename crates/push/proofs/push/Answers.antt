@@ -195,7 +195,7 @@ pub returns : goal.returns
 returns c =
     let l = c.args.ledger.now in
     let table = c.args.table.now in
-    let request : PushRequest = record { client = c.args.client.now; key = c.args.key.now; scope = c.args.scope; challenge = c.args.challenge.now; redirect = c.args.redirect.now; fresh = c.args.fresh.now } in
+    let request : PushRequest = record { client = c.args.request.client.now; key = c.args.request.key.now; scope = c.args.request.scope; challenge = c.args.request.challenge.now; redirect = c.args.request.redirect.now; fresh = c.args.request.fresh.now } in
     let t =
     come9 _ _ _ _ (sym c.in-Sound.ensures) (sym c.in-Timely.ensures) (sym c.in-Sound-check.ensures) (sym c.in-Some.ensures) (sym c.in-Passed.ensures) c.permitted.ensures (sym c.in-Some-granted.ensures) (sym c.in-New.ensures) (sym c.in-Some-free.ensures)
     (told _ _ (numbered c.args.ledger.now c.next_number-number.ensures (sym c.in-Passed-number.ensures))) in
