@@ -4,25 +4,20 @@
 
 ghost use Rattle.std.specs.Prelude.{◌≡◌};
 ghost use Rattle.desk.specs.Outcome.{left};
+ghost use Rattle.desk.specs.Requests.{reading};
 ghost use Rattle.desk.specs.Resource.{look, resource_by, resource};
 
 use desk::answer::{Answer, Refusal};
 use desk::check;
 use desk::check::Test;
+use desk::request::ResourceRequest;
 use ledger::clock::{Timing, set_clock};
 use ledger::record::{Life, at, check_life};
 use ledger::sound::Soundness;
 
 // The looking half: it writes nothing.
-pub fn look(
-    ledger: &[u8],
-    time: u64,
-    token: &[u8; 32],
-    presented: &[u8; 32],
-    scope: u32,
-    holder: u64,
-) -> Result<Answer, Refusal>
-    ensures { result ≡ look ledger.now time (record { token = token.now; presented = presented.now; scope = scope; holder = holder }) }
+pub fn look(ledger: &[u8], time: u64, request: ResourceRequest) -> Result<Answer, Refusal>
+    ensures { result ≡ look ledger.now time (reading request.entry) }
 {
     let Soundness::Sound = soundness::check(ledger) else {
         return Err(Refusal::LedgerUnsound);
@@ -30,20 +25,20 @@ pub fn look(
     let Timing::Timely = ledger::clock::check(ledger, time) else {
         return Err(Refusal::TimeWrong);
     };
-    let Some(k) = finding::record::token(ledger, token) else {
+    let Some(k) = finding::record::token(ledger, request.token) else {
         return Err(Refusal::NoToken);
     };
     let r = at(ledger, k);
     let Life::Alive = check_life(r, time) else {
         return Err(Refusal::RecordExpired);
     };
-    let Test::Passed = check::bound(r, presented) else {
+    let Test::Passed = check::bound(r, request.presented) else {
         return Err(Refusal::KeyDiffers);
     };
-    let Test::Passed = check::within(scope, ledger::record::scope(r)) else {
+    let Test::Passed = check::within(request.scope, ledger::record::scope(r)) else {
         return Err(Refusal::ScopeRefused);
     };
-    let Test::Passed = check::held(r, holder) else {
+    let Test::Passed = check::held(r, request.holder) else {
         return Err(Refusal::HolderDiffers);
     };
     Ok(Answer::of(r))
@@ -62,16 +57,9 @@ fn resource_by(ledger: &mut [u8], time: u64, reading: Result<Answer, Refusal>) -
     }
 }
 
-pub fn resource(
-    ledger: &mut [u8],
-    time: u64,
-    token: &[u8; 32],
-    presented: &[u8; 32],
-    scope: u32,
-    holder: u64,
-) -> Answer
-    ensures { left result ledger.new ≡ resource ledger.old time (record { token = token.now; presented = presented.now; scope = scope; holder = holder }) }
+pub fn resource(ledger: &mut [u8], time: u64, request: ResourceRequest) -> Answer
+    ensures { left result ledger.new ≡ resource ledger.old time (reading request.entry) }
 {
-    let reading = look(ledger, time, token, presented, scope, holder);
+    let reading = look(ledger, time, request);
     resource_by(ledger, time, reading)
 }

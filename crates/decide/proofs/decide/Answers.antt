@@ -108,7 +108,7 @@ pub returns-in_default-check_life : goal.returns-in_default-check_life
 unfolding decide_checks
 returns-in_default-check_life c =
     let l = c.args.ledger.now in
-    let request : DecideRequest = record { reference = c.args.reference.now; client = c.args.client.now; yes = c.args.yes; holder = c.args.holder; fresh = c.args.fresh.now } in
+    let request : DecideRequest = record { reference = c.args.request.reference.now; client = c.args.request.client.now; yes = c.args.request.yes; holder = c.args.request.holder; fresh = c.args.request.fresh.now } in
     refusal l c.args.time request c.args.out.now 4 (come4 _ _ _ _ (sym c.in-Sound.ensures) (sym c.in-Timely.ensures) (sym c.in-Passed.ensures) (sym c.in-Some.ensures))
     (life_told _ _ _ (rw (record_is l request (sym c.in-Some.ensures) c.at.ensures) at (sym c.in_default-check_life.ensures))) c.refused-in_default-check_life.ensures
 
@@ -125,23 +125,23 @@ returns-in_default-check_fresh c =
     (told _ _ (sym c.in_default-check_fresh.ensures)) c.refused-in_default-check_fresh.ensures
 
 pub consent_at-requires : goal.consent_at-requires
-consent_at-requires c = (found_inside (is_reference c.args.reference.now c.args.client.now) _ _ (sym c.in-Some.ensures), timely_lt _ _ (time_told _ _ _ (sym c.in-Timely.ensures)))
+consent_at-requires c = (found_inside (is_reference c.args.request.reference.now c.args.request.client.now) _ _ (sym c.in-Some.ensures), timely_lt _ _ (time_told _ _ _ (sym c.in-Timely.ensures)))
 
-pub returns-then-yes : goal.returns-then-yes
-returns-then-yes c =
+pub returns-then-request : goal.returns-then-request
+returns-then-request c =
     let l = c.args.ledger.now in
-    let request : DecideRequest = record { reference = c.args.reference.now; client = c.args.client.now; yes = c.args.yes; holder = c.args.holder; fresh = c.args.fresh.now } in
+    let request : DecideRequest = record { reference = c.args.request.reference.now; client = c.args.request.client.now; yes = c.args.request.yes; holder = c.args.request.holder; fresh = c.args.request.fresh.now } in
     let t = come7 l c.args.time request c.args.out.now (sym c.in-Sound.ensures) (sym c.in-Timely.ensures) (sym c.in-Passed.ensures) (sym c.in-Some.ensures) c.at.ensures (sym c.in-Alive.ensures) (sym c.in-Passed-given.ensures) (sym c.in-Passed-check_fresh.ensures) in
     c.consent_at.ensures
-    ∙ sym (acceptance _ _ _ _ t ∙ decide_yes l c.args.time request c.args.out.now _ c.if-yes.true (found_place _ _ _ (sym c.in-Some.ensures)))
+    ∙ sym (acceptance _ _ _ _ t ∙ decide_yes l c.args.time request c.args.out.now _ c.if-request.true (found_place _ _ _ (sym c.in-Some.ensures)))
 
 pub decline_at-requires : goal.decline_at-requires
-decline_at-requires c = found_inside (is_reference c.args.reference.now c.args.client.now) _ _ (sym c.in-Some.ensures)
+decline_at-requires c = found_inside (is_reference c.args.request.reference.now c.args.request.client.now) _ _ (sym c.in-Some.ensures)
 
 pub returns : goal.returns
 returns c =
     let l = c.args.ledger.now in
-    let request : DecideRequest = record { reference = c.args.reference.now; client = c.args.client.now; yes = c.args.yes; holder = c.args.holder; fresh = c.args.fresh.now } in
+    let request : DecideRequest = record { reference = c.args.request.reference.now; client = c.args.request.client.now; yes = c.args.request.yes; holder = c.args.request.holder; fresh = c.args.request.fresh.now } in
     let t = come7 l c.args.time request c.args.out.now (sym c.in-Sound.ensures) (sym c.in-Timely.ensures) (sym c.in-Passed.ensures) (sym c.in-Some.ensures) c.at.ensures (sym c.in-Alive.ensures) (sym c.in-Passed-given.ensures) (sym c.in-Passed-check_fresh.ensures) in
     c.decline_at.ensures
-    ∙ sym (acceptance _ _ _ _ t ∙ decide_no l c.args.time request c.args.out.now _ c.if-yes.false (found_place _ _ _ (sym c.in-Some.ensures)))
+    ∙ sym (acceptance _ _ _ _ t ∙ decide_no l c.args.time request c.args.out.now _ c.if-request.false (found_place _ _ _ (sym c.in-Some.ensures)))

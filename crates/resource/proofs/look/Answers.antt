@@ -102,7 +102,7 @@ pub returns-in_default-check_life : goal.returns-in_default-check_life
 unfolding resource_checks
 returns-in_default-check_life c =
     let l = c.args.ledger.now in
-    let request : ResourceRequest = record { token = c.args.token.now; presented = c.args.presented.now; scope = c.args.scope; holder = c.args.holder } in
+    let request : ResourceRequest = record { token = c.args.request.token.now; presented = c.args.request.presented.now; scope = c.args.request.scope; holder = c.args.request.holder } in
     let read = record_is l request (sym c.in-Some.ensures) c.at-r.ensures in
     refusal l c.args.time request 3 (come3 _ _ _ (sym c.in-Sound.ensures) (sym c.in-Timely.ensures) (sym c.in-Some.ensures))
     (life_told _ _ _ (rw read at (sym c.in_default-check_life.ensures)))
@@ -111,7 +111,7 @@ pub returns-in_default-bound : goal.returns-in_default-bound
 unfolding resource_checks
 returns-in_default-bound c =
     let l = c.args.ledger.now in
-    let request : ResourceRequest = record { token = c.args.token.now; presented = c.args.presented.now; scope = c.args.scope; holder = c.args.holder } in
+    let request : ResourceRequest = record { token = c.args.request.token.now; presented = c.args.request.presented.now; scope = c.args.request.scope; holder = c.args.request.holder } in
     let read = record_is l request (sym c.in-Some.ensures) c.at-r.ensures in
     refusal l c.args.time request 4 (come4 _ _ _ (sym c.in-Sound.ensures) (sym c.in-Timely.ensures) (sym c.in-Some.ensures) c.at-r.ensures (sym c.in-Alive.ensures))
     (told _ _ (rw read at (sym c.in_default-bound.ensures)))
@@ -120,16 +120,16 @@ pub returns-in_default-within : goal.returns-in_default-within
 unfolding resource_checks
 returns-in_default-within c =
     let l = c.args.ledger.now in
-    let request : ResourceRequest = record { token = c.args.token.now; presented = c.args.presented.now; scope = c.args.scope; holder = c.args.holder } in
+    let request : ResourceRequest = record { token = c.args.request.token.now; presented = c.args.request.presented.now; scope = c.args.request.scope; holder = c.args.request.holder } in
     let read = record_is l request (sym c.in-Some.ensures) c.at-r.ensures in
     refusal l c.args.time request 5 (come5 _ _ _ (sym c.in-Sound.ensures) (sym c.in-Timely.ensures) (sym c.in-Some.ensures) c.at-r.ensures (sym c.in-Alive.ensures) (rw read at (sym c.in-Passed.ensures)))
-    (told _ _ (bits c.args.scope read c.scope.ensures (sym c.in_default-within.ensures)))
+    (told _ _ (bits c.args.request.scope read c.scope.ensures (sym c.in_default-within.ensures)))
 
 pub returns-in_default-held : goal.returns-in_default-held
 unfolding resource_checks
 returns-in_default-held c =
     let l = c.args.ledger.now in
-    let request : ResourceRequest = record { token = c.args.token.now; presented = c.args.presented.now; scope = c.args.scope; holder = c.args.holder } in
+    let request : ResourceRequest = record { token = c.args.request.token.now; presented = c.args.request.presented.now; scope = c.args.request.scope; holder = c.args.request.holder } in
     let read = record_is l request (sym c.in-Some.ensures) c.at-r.ensures in
     refusal l c.args.time request 6 (come6 _ _ _ (sym c.in-Sound.ensures) (sym c.in-Timely.ensures) (sym c.in-Some.ensures) c.at-r.ensures (sym c.in-Alive.ensures) (rw read at (sym c.in-Passed.ensures)) c.scope.ensures (sym c.in-Passed-within.ensures))
     (told _ _ (rw read at (sym c.in_default-held.ensures)))
@@ -138,7 +138,7 @@ pub returns : goal.returns
 unfolding resource_checks
 returns c =
     let l = c.args.ledger.now in
-    let request : ResourceRequest = record { token = c.args.token.now; presented = c.args.presented.now; scope = c.args.scope; holder = c.args.holder } in
+    let request : ResourceRequest = record { token = c.args.request.token.now; presented = c.args.request.presented.now; scope = c.args.request.scope; holder = c.args.request.holder } in
     let read = record_is l request (sym c.in-Some.ensures) c.at-r.ensures in
     let t = come7 l c.args.time request (sym c.in-Sound.ensures) (sym c.in-Timely.ensures) (sym c.in-Some.ensures) c.at-r.ensures (sym c.in-Alive.ensures) (rw read at (sym c.in-Passed.ensures)) c.scope.ensures (sym c.in-Passed-within.ensures) (sym c.in-Passed-held.ensures) in
     ap Ok (c.of.ensures ∙ ap answer_of read) ∙ sym (acceptance _ _ _ t)

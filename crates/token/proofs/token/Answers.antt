@@ -154,14 +154,14 @@ returns-in_default-code c =
     (ap not (found_told _ _ _ (sym c.in_default-code.ensures))) c.refused-in_default-code.ensures refl
 
 pub end_at-requires : goal.end_at-requires
-end_at-requires c = found_inside (is_code c.args.code.now c.args.client.now) _ _ (sym c.in-Some-code.ensures)
+end_at-requires c = found_inside (is_code c.args.request.code.now c.args.request.client.now) _ _ (sym c.in-Some-code.ensures)
 
 -- 15, whose record is freed and whose clock is set
 pub returns-in_default-unredeemed : goal.returns-in_default-unredeemed
 unfolding token_checks
 returns-in_default-unredeemed c =
     let l = c.args.ledger.now in
-    let request : TokenRequest = record { client = c.args.client.now; key = c.args.key.now; presented = c.args.presented.now; code = c.args.code.now; verifier = c.args.verifier.now; fresh = c.args.fresh.now } in
+    let request : TokenRequest = record { client = c.args.request.client.now; key = c.args.request.key.now; presented = c.args.request.presented.now; code = c.args.request.code.now; verifier = c.args.request.verifier.now; fresh = c.args.request.fresh.now } in
     refusal l c.args.time c.args.table.now request 7 (come7 _ _ _ _ (sym c.in-Sound.ensures) (sym c.in-Timely.ensures) (sym c.in-Sound-check.ensures) (sym c.in-Some.ensures) (sym c.in-Passed.ensures) (sym c.in-Well.ensures) (sym c.in-Some-code.ensures))
     (told _ _ (rw (record_is l request (sym c.in-Some-code.ensures) c.at.ensures) at (sym c.in_default-unredeemed.ensures))) c.refused-in_default-unredeemed.ensures (c.end_at.ensures ∙ ap (ended l c.args.time) (sym (found_place _ _ _ (sym c.in-Some-code.ensures))))
 
@@ -169,7 +169,7 @@ pub returns-in_default-check_life : goal.returns-in_default-check_life
 unfolding token_checks
 returns-in_default-check_life c =
     let l = c.args.ledger.now in
-    let request : TokenRequest = record { client = c.args.client.now; key = c.args.key.now; presented = c.args.presented.now; code = c.args.code.now; verifier = c.args.verifier.now; fresh = c.args.fresh.now } in
+    let request : TokenRequest = record { client = c.args.request.client.now; key = c.args.request.key.now; presented = c.args.request.presented.now; code = c.args.request.code.now; verifier = c.args.request.verifier.now; fresh = c.args.request.fresh.now } in
     refusal l c.args.time c.args.table.now request 8 (come8 _ _ _ _ (sym c.in-Sound.ensures) (sym c.in-Timely.ensures) (sym c.in-Sound-check.ensures) (sym c.in-Some.ensures) (sym c.in-Passed.ensures) (sym c.in-Well.ensures) (sym c.in-Some-code.ensures) c.at.ensures (sym c.in-Passed-unredeemed.ensures))
     (life_told _ _ _ (rw (record_is l request (sym c.in-Some-code.ensures) c.at-2.ensures) at (sym c.in_default-check_life.ensures))) c.refused-in_default-check_life.ensures refl
 
@@ -177,7 +177,7 @@ pub returns-in_default-check_verifier : goal.returns-in_default-check_verifier
 unfolding token_checks
 returns-in_default-check_verifier c =
     let l = c.args.ledger.now in
-    let request : TokenRequest = record { client = c.args.client.now; key = c.args.key.now; presented = c.args.presented.now; code = c.args.code.now; verifier = c.args.verifier.now; fresh = c.args.fresh.now } in
+    let request : TokenRequest = record { client = c.args.request.client.now; key = c.args.request.key.now; presented = c.args.request.presented.now; code = c.args.request.code.now; verifier = c.args.request.verifier.now; fresh = c.args.request.fresh.now } in
     refusal l c.args.time c.args.table.now request 9 (come9 _ _ _ _ (sym c.in-Sound.ensures) (sym c.in-Timely.ensures) (sym c.in-Sound-check.ensures) (sym c.in-Some.ensures) (sym c.in-Passed.ensures) (sym c.in-Well.ensures) (sym c.in-Some-code.ensures) c.at.ensures (sym c.in-Passed-unredeemed.ensures) c.at-2.ensures (sym c.in-Alive.ensures))
     (ap not (matching_differs _ _ (rw (record_is l request (sym c.in-Some-code.ensures) c.at-3.ensures) at (sym c.in_default-check_verifier.ensures)))) c.refused-in_default-check_verifier.ensures refl
 
@@ -189,7 +189,7 @@ returns-in_default-check-4 c =
 
 pub token_at-requires : goal.token_at-requires
 token_at-requires c = (
-  found_inside (is_code c.args.code.now c.args.client.now) _ _ (sym c.in-Some-code.ensures),
+  found_inside (is_code c.args.request.code.now c.args.request.client.now) _ _ (sym c.in-Some-code.ensures),
   timely_lt _ _ (time_told _ _ _ (sym c.in-Timely.ensures)),
 )
 
@@ -197,7 +197,7 @@ pub returns : goal.returns
 unfolding token_checks
 returns c =
     let l = c.args.ledger.now in
-    let request : TokenRequest = record { client = c.args.client.now; key = c.args.key.now; presented = c.args.presented.now; code = c.args.code.now; verifier = c.args.verifier.now; fresh = c.args.fresh.now } in
+    let request : TokenRequest = record { client = c.args.request.client.now; key = c.args.request.key.now; presented = c.args.request.presented.now; code = c.args.request.code.now; verifier = c.args.request.verifier.now; fresh = c.args.request.fresh.now } in
     let t =
     passes 10 (checks l c.args.time c.args.table.now request) (come10 _ _ _ _ (sym c.in-Sound.ensures) (sym c.in-Timely.ensures) (sym c.in-Sound-check.ensures) (sym c.in-Some.ensures) (sym c.in-Passed.ensures) (sym c.in-Well.ensures) (sym c.in-Some-code.ensures) c.at.ensures (sym c.in-Passed-unredeemed.ensures) c.at-2.ensures (sym c.in-Alive.ensures) c.at-3.ensures (sym c.in-Same.ensures)) (value_told _ _ _ (sym c.in-New.ensures)) in
     c.token_at.ensures ∙ written_at l c.args.time request _ (found_place _ _ _ (sym c.in-Some-code.ensures)) ∙ sym (acceptance _ _ _ _ t)
