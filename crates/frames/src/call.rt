@@ -16,6 +16,7 @@ ghost use Rattle.frames.specs.Serve.{written, called};
 
 use super::answer::{write_answer, write_decided, write_swept};
 use desk::answer::{Answer, Decided, Swept};
+use desk::request::{DecideRequest, PushRequest, ResourceRequest, TokenRequest};
 use forms::{Challenge, Redirect};
 use octets::number::{read32, read64};
 use octets::part::{copy, cut, from};
@@ -46,17 +47,16 @@ fn push(f: &[u8], ledger: &mut [u8], table: &[u8]) -> Answer
     let client = id(cut(f, Push::CLIENT, ClientId::WIDTH));
     let key = value(cut(f, Push::KEY, Key::WIDTH));
     let fresh = value(cut(f, Push::FRESH, Value::WIDTH));
-    push::push(
-        ledger,
-        read64(from(f, Push::TIME)),
-        table,
-        &client,
-        &key,
-        read32(from(f, Push::SCOPE)),
-        cut(f, Push::CHALLENGE, Challenge::LENGTH),
-        from(f, Push::WIDTH),
-        &fresh,
-    )
+    let time = read64(from(f, Push::TIME));
+    let request = PushRequest {
+        client: &client,
+        key: &key,
+        scope: read32(from(f, Push::SCOPE)),
+        challenge: cut(f, Push::CHALLENGE, Challenge::LENGTH),
+        redirect: from(f, Push::WIDTH),
+        fresh: &fresh,
+    };
+    push::push(ledger, time, table, request)
 }
 
 fn decide(f: &[u8], ledger: &mut [u8], out: &mut [u8]) -> Decided
@@ -66,16 +66,15 @@ fn decide(f: &[u8], ledger: &mut [u8], out: &mut [u8]) -> Decided
     let client = id(cut(f, Decide::CLIENT, ClientId::WIDTH));
     let reference = value(cut(f, Decide::REFERENCE, Value::WIDTH));
     let fresh = value(cut(f, Decide::FRESH, Value::WIDTH));
-    decide::decide(
-        ledger,
-        read64(from(f, Decide::TIME)),
-        &reference,
-        &client,
-        f[Decide::YES] == 1,
-        read64(from(f, Decide::HOLDER)),
-        &fresh,
-        out,
-    )
+    let time = read64(from(f, Decide::TIME));
+    let request = DecideRequest {
+        reference: &reference,
+        client: &client,
+        yes: f[Decide::YES] == 1,
+        holder: read64(from(f, Decide::HOLDER)),
+        fresh: &fresh,
+    };
+    decide::decide(ledger, time, request, out)
 }
 
 fn token(f: &[u8], ledger: &mut [u8], table: &[u8]) -> Answer
@@ -87,17 +86,16 @@ fn token(f: &[u8], ledger: &mut [u8], table: &[u8]) -> Answer
     let presented = value(cut(f, Token::PRESENTED, Key::WIDTH));
     let code = value(cut(f, Token::CODE, Value::WIDTH));
     let fresh = value(cut(f, Token::FRESH, Value::WIDTH));
-    token::token(
-        ledger,
-        read64(from(f, Token::TIME)),
-        table,
-        &client,
-        &key,
-        &presented,
-        &code,
-        from(f, Token::WIDTH),
-        &fresh,
-    )
+    let time = read64(from(f, Token::TIME));
+    let request = TokenRequest {
+        client: &client,
+        key: &key,
+        presented: &presented,
+        code: &code,
+        verifier: from(f, Token::WIDTH),
+        fresh: &fresh,
+    };
+    token::token(ledger, time, table, request)
 }
 
 fn resource(f: &[u8], ledger: &mut [u8]) -> Answer
@@ -106,14 +104,14 @@ fn resource(f: &[u8], ledger: &mut [u8]) -> Answer
 {
     let token = value(cut(f, Resource::TOKEN, Value::WIDTH));
     let key = value(cut(f, Resource::KEY, Key::WIDTH));
-    resource::resource(
-        ledger,
-        read64(from(f, Resource::TIME)),
-        &token,
-        &key,
-        read32(from(f, Resource::SCOPE)),
-        read64(from(f, Resource::HOLDER)),
-    )
+    let time = read64(from(f, Resource::TIME));
+    let request = ResourceRequest {
+        token: &token,
+        presented: &key,
+        scope: read32(from(f, Resource::SCOPE)),
+        holder: read64(from(f, Resource::HOLDER)),
+    };
+    resource::resource(ledger, time, request)
 }
 
 fn sweep(f: &[u8], ledger: &mut [u8]) -> Swept

@@ -19,6 +19,7 @@ ghost use Rattle.front.specs.Version.{version_number, interface_number};
 
 use answer::{Answer, Decided, Introspected, Swept};
 use choice::Choice;
+use desk::request::{DecideRequest, PushRequest, ResourceRequest, TokenRequest};
 use version::{Interface, Version};
 
 pub mod answer;
@@ -44,9 +45,15 @@ pub fn perdigolh_push(
 ) -> Answer
     ensures { left (as_answer result) ledger.new ≡ push ledger.old time table.now (record { client = client.now; key = key.now; scope = scope; challenge = challenge.now; redirect = redirect.now; fresh = fresh.now }) }
 {
-    Answer::of(push::push(
-        ledger, time, table, client, key, scope, challenge, redirect, fresh,
-    ))
+    let request = PushRequest {
+        client,
+        key,
+        scope,
+        challenge,
+        redirect,
+        fresh,
+    };
+    Answer::of(push::push(ledger, time, table, request))
 }
 
 pub fn perdigolh_decide(
@@ -61,10 +68,14 @@ pub fn perdigolh_decide(
 ) -> Decided
     ensures { left_with (as_decided result) ledger.new output.new ≡ decide ledger.old time (record { reference = reference.now; client = client.now; yes = consents yes; holder = holder; fresh = fresh.now }) output.old }
 {
-    let choice = Choice::consents(yes);
-    Decided::of(decide::decide(
-        ledger, time, reference, client, choice, holder, fresh, output,
-    ))
+    let request = DecideRequest {
+        reference,
+        client,
+        yes: Choice::consents(yes),
+        holder,
+        fresh,
+    };
+    Decided::of(decide::decide(ledger, time, request, output))
 }
 
 pub fn perdigolh_token(
@@ -80,9 +91,15 @@ pub fn perdigolh_token(
 ) -> Answer
     ensures { left (as_answer result) ledger.new ≡ token ledger.old time table.now (record { client = client.now; key = key.now; presented = presented.now; code = code.now; verifier = verifier.now; fresh = fresh.now }) }
 {
-    Answer::of(token::token(
-        ledger, time, table, client, key, presented, code, verifier, fresh,
-    ))
+    let request = TokenRequest {
+        client,
+        key,
+        presented,
+        code,
+        verifier,
+        fresh,
+    };
+    Answer::of(token::token(ledger, time, table, request))
 }
 
 pub fn perdigolh_resource(
@@ -95,7 +112,13 @@ pub fn perdigolh_resource(
 ) -> Answer
     ensures { left (as_answer result) ledger.new ≡ resource ledger.old time (record { token = token.now; presented = presented.now; scope = scope; holder = holder }) }
 {
-    Answer::of(resource::resource(ledger, time, token, presented, scope, holder))
+    let request = ResourceRequest {
+        token,
+        presented,
+        scope,
+        holder,
+    };
+    Answer::of(resource::resource(ledger, time, request))
 }
 
 pub fn perdigolh_sweep(ledger: &mut [u8], time: u64) -> Swept
