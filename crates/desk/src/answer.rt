@@ -89,8 +89,8 @@ impl Answer {
     {
         Answer {
             number: Answer::DONE,
-            grant: grant,
-            holder: holder,
+            grant,
+            holder,
             scope: 0,
             expiry: 0,
         }
@@ -120,8 +120,8 @@ impl Decided {
         ensures { result ≡ decided answer length }
     {
         Decided {
-            answer: answer,
-            length: length,
+            answer,
+            length,
         }
     }
 
@@ -179,7 +179,7 @@ impl Introspected {
     {
         Introspected {
             number: Answer::DONE,
-            length: length,
+            length,
         }
     }
 

@@ -42,10 +42,7 @@ pub enum Timing {
 pub fn check(l: &[u8], time: u64) -> Timing
     ensures { result ≡ check_time l.now time }
 {
-    if time < clock(l) {
-        return Timing::Untimely;
-    }
-    if Clock::LIMIT <= time {
+    if time < clock(l) || Clock::LIMIT <= time {
         return Timing::Untimely;
     }
     Timing::Timely

@@ -12,18 +12,20 @@ pub enum State {
     Redeemed,
 }
 
-impl State {
-    pub fn number(self) -> u8
-        ensures { result ≡ state_number self }
-    {
-        match self {
+impl From<State> for u8 {
+    ghost from_gives = { λ s n. n ≡ state_number s };
+
+    fn from(s: State) -> u8 {
+        match s {
             State::Free => 0,
             State::Pushed => 1,
             State::Consented => 2,
             State::Redeemed => 3,
         }
     }
+}
 
+impl State {
     // What the state byte says, where there is such a state.
     pub fn of(r: &[u8]) -> Option<State>
         ensures { result ≡ state_of r.now }
@@ -51,5 +53,5 @@ fn byte(r: &[u8]) -> u8
 pub fn is_in(r: &[u8], s: State) -> bool
     ensures { result ≡ in_state s r.now }
 {
-    byte(r) == s.number()
+    byte(r) == u8::from(s)
 }

@@ -11,7 +11,7 @@ use octets::part::put;
 fn set_state(r: &mut [u8], s: State)
     ensures { r.new ≡ with_state s r.old }
 {
-    put(r, Field::STATE, &[s.number()]);
+    put(r, Field::STATE, &[u8::from(s)]);
 }
 
 // What a push leaves behind its numbers: who may decide, redeem and be sent back, and by which reference.
