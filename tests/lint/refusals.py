@@ -25,7 +25,7 @@ PLAYS, STREAMS, BESIDE = "tests/runs/plays.py", "tests/generators/stream_maker.p
 LISTS = {
     "the definition": (DEFINITION, r"(?s).*", r"^number_of (?P<name>\w+) = (?P<number>\d+)$"),
     "the enum": (CODE, r"pub enum Refusal \{\n(.*?)\n\}", r"^    (?P<name>\w+),$"),
-    "the enum's numbers": (CODE, r"match self \{\n(.*?)\n        \}", r"^ +Refusal::(?P<name>\w+) => (?P<number>\d+),$"),
+    "the enum's numbers": (CODE, r"match why \{\n(.*?)\n        \}", r"^ +Refusal::(?P<name>\w+) => (?P<number>\d+),$"),
     "the header": (HEADER, r"enum perdigolh_number \{\n(.*?)\n\};", r"^    PERDIGOLH_(?P<name>\w+) = (?P<number>\d+),? *(?:/\* (?P<words>.*?) \*/)?$"),
     "the bindings": (BINDINGS, r"\nrefusals! \{\n(.*?)\n\}", r'^    (?P<name>\w+) = (?P<number>\d+), "(?P<words>[^"]*)";$'),
     "the second program": (SECOND, r"pub enum Refusal \{\n(.*?)\n\}", r"^    (?P<name>\w+) = (?P<number>\d+),$"),

@@ -29,11 +29,11 @@ pub enum Refusal {
     OutputShort,
 }
 
-impl Refusal {
-    pub fn number(self) -> u8
-        ensures { result ≡ number_of self }
-    {
-        match self {
+impl From<Refusal> for u8 {
+    ghost from_gives = { λ why n. n ≡ number_of why };
+
+    fn from(why: Refusal) -> u8 {
+        match why {
             Refusal::LedgerUnsound => 1,
             Refusal::TimeWrong => 2,
             Refusal::TableUnsound => 3,
@@ -100,7 +100,7 @@ impl Answer {
         ensures { result ≡ refused why }
     {
         Answer {
-            number: why.number(),
+            number: u8::from(why),
             grant: 0,
             holder: 0,
             scope: 0,
@@ -159,7 +159,7 @@ impl Swept {
         ensures { result ≡ unswept why }
     {
         Swept {
-            number: why.number(),
+            number: u8::from(why),
             pushed: 0,
             consented: 0,
             redeemed: 0,
@@ -187,7 +187,7 @@ impl Introspected {
         ensures { result ≡ untold why }
     {
         Introspected {
-            number: why.number(),
+            number: u8::from(why),
             length: 0,
         }
     }

@@ -31,7 +31,7 @@ fn refuse_start(kept: usize, out: &mut [u8]) -> Used
     requires { length out.old ≡ answer_most }
     ensures { (result.used ≡ kept) × ((result.count ≤ answer_most) × (take result.count out.new ≡ number_bytes (number_of LedgerUnsound))) }
 {
-    let count = write_number(out, Refusal::LedgerUnsound.number());
+    let count = write_number(out, u8::from(Refusal::LedgerUnsound));
     Used {
         used: kept,
         count: count,
@@ -65,7 +65,7 @@ fn append(f: &[u8], used: usize, table: &mut [u8], out: &mut [u8]) -> Used
     ensures { (result.count ≤ answer_most) × (filled result.used table.new (take result.count out.new) ≡ fill (appended f.now (take used table.old)) table.old) }
 {
     if Buffer::TABLE < used + Record::SIZE {
-        let count = write_number(out, Refusal::TableUnsound.number());
+        let count = write_number(out, u8::from(Refusal::TableUnsound));
         return Used {
             used: used,
             count: count,

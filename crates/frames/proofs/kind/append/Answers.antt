@@ -5,7 +5,7 @@ use Rattle.frames.proofs.kind.append.Goals as goal
 
 pub returns-then-used-gt-TABLE : goal.returns-then-used-gt-TABLE
 returns-then-used-gt-TABLE c =
-    (search rules, append_full c.args.f.now c.args.table.now c.args.used (omega arith) c.if-used-gt-TABLE.true refl (c.write_number-count.ensures.1 ∙ ap number_bytes c.number.ensures))
+    (search rules, append_full c.args.f.now c.args.table.now c.args.used (omega arith) c.if-used-gt-TABLE.true refl (c.write_number-count.ensures.1 ∙ ap number_bytes c.from.ensures))
 
 pub returns : goal.returns
 returns c =
