@@ -1,10 +1,11 @@
 -- What the answers of the checks say of the table's conditions.
-use Rattle.std.specs.Prelude.{Option, Some, None}
+use Rattle.std.specs.Prelude.{Option, Some}
+use Rattle.std.specs.Option.{is_some, unwrap_or}
 use Prim.Native.Nat.{ℕ}
 use mathlib.Core.Path.{◌≡◌, refl, ap, ◌∙◌}
-use mathlib.Core.Bool.{Bool, true, false, not, ◌&&◌}
+use mathlib.Core.Bool.{Bool, true, false, not, ◌&&◌, false≢true}
 use mathlib.Core.List.{List}
-use native.Mathlib.Omega.{arith}
+use Rattle.octets.proofs.Tests.{some_told, some_is}
 use Rattle.forms.specs.Forms.{redirect_formed, challenge_formed}
 use Rattle.clients.specs.Known.{is_known, place_of, known}
 use Rattle.clients.specs.Sound.{sound as table_sound, check_table}
@@ -37,29 +38,21 @@ table_told t a e = go (table_sound t) refl
     go true s = s ∙ ap is_sound (rw s at e)
     go false s = s ∙ ap is_sound (rw s at e)
 
-abbrev is_at : Option ℕ → Bool
-is_at (Some k) = true
-is_at None = false
-
-abbrev place_in : Option ℕ → ℕ
-place_in (Some k) = k
-place_in None = 0
-
-pub known_told : (t v key : List ℕ) (a : Option ℕ) → known t v key ≡ a → is_known t v key ≡ is_at a
+pub known_told : (t v key : List ℕ) (a : Option ℕ) → known t v key ≡ a → is_known t v key ≡ is_some a
 unfolding known
 known_told t v key a e = go (is_known t v key) refl
   where
-    go : (b : Bool) → is_known t v key ≡ b → is_known t v key ≡ is_at a
-    go true s = s ∙ ap is_at (rw s at e)
-    go false s = s ∙ ap is_at (rw s at e)
+    go : (b : Bool) → is_known t v key ≡ b → is_known t v key ≡ is_some a
+    go true s = s ∙ ap is_some (rw s at e)
+    go false s = s ∙ ap is_some (rw s at e)
 
 pub known_place : (t v key : List ℕ) (k : ℕ) → known t v key ≡ Some k → place_of t v ≡ k
 unfolding known
 known_place t v key k e = go (is_known t v key) refl
   where
     go : (b : Bool) → is_known t v key ≡ b → place_of t v ≡ k
-    go true s = ap place_in (rw s at e)
-    go false s = let n : None ≡ Some k = rw s at e in let z : ◌≡◌ {A = ℕ} 0 1 = cc in absurd (omega arith)
+    go true s = ap (λ (a : Option ℕ). unwrap_or a 0) (rw s at e)
+    go false s = absurd (false≢true (ap is_some (rw s at e)))
 
 pub texts_told : (r c : List ℕ) (a : Test) → texts_test r c ≡ a → (redirect_formed r && challenge_formed c) ≡ not (is_failed a)
 unfolding texts_test
@@ -69,26 +62,10 @@ texts_told r c a e = go (redirect_formed r && challenge_formed c) refl (told (no
     go true s f = s ∙ ap not (rw s at f)
     go false s f = s ∙ ap not (rw s at f)
 
-abbrev is_granted : Option ℕ → Bool
-is_granted (Some n) = true
-is_granted None = false
-
-abbrev bits_in : Option ℕ → ℕ
-bits_in (Some n) = n
-bits_in None = 0
-
-pub scope_told : (asked given : ℕ) (a : Option ℕ) → scope_decision asked given ≡ a → scope_fits asked given ≡ is_granted a
+pub scope_told : (asked given : ℕ) (a : Option ℕ) → scope_decision asked given ≡ a → scope_fits asked given ≡ is_some a
 unfolding scope_decision
-scope_told asked given a e = go (scope_fits asked given) refl
-  where
-    go : (b : Bool) → scope_fits asked given ≡ b → scope_fits asked given ≡ is_granted a
-    go true s = s ∙ ap is_granted (rw s at e)
-    go false s = s ∙ ap is_granted (rw s at e)
+scope_told asked given a e = some_told _ _ a e
 
 pub scope_bits : (asked given n : ℕ) → scope_decision asked given ≡ Some n → granted_bits asked given ≡ n
 unfolding scope_decision
-scope_bits asked given n e = go (scope_fits asked given) refl
-  where
-    go : (b : Bool) → scope_fits asked given ≡ b → granted_bits asked given ≡ n
-    go true s = ap bits_in (rw s at e)
-    go false s = let z : None ≡ Some n = rw s at e in let y : ◌≡◌ {A = ℕ} 0 1 = cc in absurd (omega arith)
+scope_bits asked given n e = some_is _ _ n e

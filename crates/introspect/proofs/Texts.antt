@@ -7,6 +7,8 @@ use mathlib.Core.List.{List}
 use lib.Dec.{ltb, leb}
 use lib.ListN.{length}
 use borrow.Author.Tests.{leb-true, leb-false, le-ltb, lt-ltb}
+use Rattle.std.specs.Option.{is_some}
+use Rattle.octets.proofs.Tests.{some_told, some_is}
 use Rattle.octets.specs.Lists.{some}
 use Rattle.octets.specs.Parts.{put}
 use Rattle.description.specs.Description.{live_text, inactive_text}
@@ -32,22 +34,10 @@ module _ (l : List ℕ) (t : ℕ) (v : List ℕ) where
 
 -- ---- the answer of the text's writer
 
-abbrev is_long : Option ℕ → Bool
-is_long (Some n) = true
-is_long None = false
-
-abbrev long_in : Option ℕ → ℕ
-long_in (Some n) = n
-long_in None = 0
-
 module _ (text out : List ℕ) where
-  room_told : (a : Option ℕ) → written text out ≡ a → leb (length text) (length out) ≡ is_long a
+  room_told : (a : Option ℕ) → written text out ≡ a → leb (length text) (length out) ≡ is_some a
   unfolding written
-  room_told a e = go (leb (length text) (length out)) refl
-    where
-      go : (b : Bool) → leb (length text) (length out) ≡ b → leb (length text) (length out) ≡ is_long a
-      go true s = s ∙ ap is_long (rw s at e)
-      go false s = s ∙ ap is_long (rw s at e)
+  room_told a e = some_told _ _ a e
 
   pub short_told : written text out ≡ None → ltb (length out) (length text) ≡ true
   short_told e = lt-ltb (length out) (length text) (leb-false (length text) (length out) (room_told None e))
@@ -62,7 +52,7 @@ module _ (text out : List ℕ) where
 
     pub long_is : n ≡ length text
     unfolding written
-    long_is = let r = room_told (Some n) e in ap long_in (sym (rw r at e))
+    long_is = sym (some_is _ _ n e)
 
     pub long_over : written_over text out ≡ put out 0 text
     unfolding written_over

@@ -1,5 +1,7 @@
 -- What a check's answer says of its condition, in the words of the table "Numbers returned".
-use Rattle.std.proofs.Common.{◌≡◌, ℕ, Bool, true, false, cond, List, sym, refl, ap, ◌∙◌, arith, Option, Some, None}
+use Rattle.std.proofs.Common.{◌≡◌, ℕ, Bool, true, false, cond, List, sym, refl, ap, ◌∙◌, Option, Some}
+use Rattle.std.specs.Option.{is_some}
+use Rattle.octets.proofs.Tests.{some_told, some_is}
 use Rattle.octets.specs.Lists.{some, place}
 use Rattle.ledger.specs.Fields.{records}
 use Rattle.ledger.specs.Sound.{sized, sound}
@@ -50,14 +52,6 @@ abbrev is_expired : Life → Bool
 is_expired Alive = false
 is_expired Expired = true
 
-abbrev is_at : Option ℕ → Bool
-is_at (Some k) = true
-is_at None = false
-
-abbrev place_in : Option ℕ → ℕ
-place_in (Some k) = k
-place_in None = 0
-
 pub size_told : (l : List ℕ) (a : Size) → check_size l ≡ a → sized l ≡ is_right a
 unfolding check_size
 size_told l a e = told is_right Right Wrong refl refl (sized l) a e
@@ -78,14 +72,10 @@ pub life_told : (r : List ℕ) (t : ℕ) (a : Life) → check_life r t ≡ a →
 unfolding check_life
 life_told r t a e = told is_expired Expired Alive refl refl (expired t r) a e
 
-pub found_told : (q : List ℕ → Bool) (l : List ℕ) (a : Option ℕ) → found q l ≡ a → some q (records l) ≡ is_at a
+pub found_told : (q : List ℕ → Bool) (l : List ℕ) (a : Option ℕ) → found q l ≡ a → some q (records l) ≡ is_some a
 unfolding found
-found_told q l a e = told is_at (Some (place q (records l))) None refl refl (some q (records l)) a e
+found_told q l a e = some_told _ _ a e
 
 pub found_place : (q : List ℕ → Bool) (l : List ℕ) (k : ℕ) → found q l ≡ Some k → place q (records l) ≡ k
 unfolding found
-found_place q l k e = go (some q (records l)) refl
-  where
-    go : (b : Bool) → some q (records l) ≡ b → place q (records l) ≡ k
-    go true s = ap place_in (rw s at e)
-    go false s = let n : None ≡ Some k = rw s at e in let z : ◌≡◌ {A = ℕ} 0 1 = cc in absurd (omega arith)
+found_place q l k e = some_is _ _ k e
