@@ -39,7 +39,7 @@ fn short(s: &[u8]) -> u64
 {
     let mut n: u64 = 0;
     for x in s {
-        n = n * 256 + *x as u64;
+        n = n * 256 + u64::from(*x);
     }
     n
 }
