@@ -18,7 +18,7 @@ use super::answer::{write_answer, write_decided, write_swept};
 use desk::answer::{Answer, Decided, Swept};
 use desk::request::{DecideRequest, PushRequest, ResourceRequest, TokenRequest};
 use forms::{Challenge, Redirect};
-use octets::number::{read32, read64};
+use octets::number::Number;
 use octets::part::{copy, cut, from};
 use wire::kind::{ClientId, Decide, Key, Kind, Push, Resource, Sweep, Token, Value};
 
@@ -47,11 +47,11 @@ fn push(f: &[u8], ledger: &mut [u8], table: &[u8]) -> Answer
     let client = id(cut(f, Push::CLIENT, ClientId::WIDTH));
     let key = value(cut(f, Push::KEY, Key::WIDTH));
     let fresh = value(cut(f, Push::FRESH, Value::WIDTH));
-    let time = read64(from(f, Push::TIME));
+    let time = u64::read(from(f, Push::TIME));
     let request = PushRequest {
         client: &client,
         key: &key,
-        scope: read32(from(f, Push::SCOPE)),
+        scope: u32::read(from(f, Push::SCOPE)),
         challenge: cut(f, Push::CHALLENGE, Challenge::LENGTH),
         redirect: from(f, Push::WIDTH),
         fresh: &fresh,
@@ -66,12 +66,12 @@ fn decide(f: &[u8], ledger: &mut [u8], out: &mut [u8]) -> Decided
     let client = id(cut(f, Decide::CLIENT, ClientId::WIDTH));
     let reference = value(cut(f, Decide::REFERENCE, Value::WIDTH));
     let fresh = value(cut(f, Decide::FRESH, Value::WIDTH));
-    let time = read64(from(f, Decide::TIME));
+    let time = u64::read(from(f, Decide::TIME));
     let request = DecideRequest {
         reference: &reference,
         client: &client,
         yes: f[Decide::YES] == 1,
-        holder: read64(from(f, Decide::HOLDER)),
+        holder: u64::read(from(f, Decide::HOLDER)),
         fresh: &fresh,
     };
     decide::decide(ledger, time, request, out)
@@ -86,7 +86,7 @@ fn token(f: &[u8], ledger: &mut [u8], table: &[u8]) -> Answer
     let presented = value(cut(f, Token::PRESENTED, Key::WIDTH));
     let code = value(cut(f, Token::CODE, Value::WIDTH));
     let fresh = value(cut(f, Token::FRESH, Value::WIDTH));
-    let time = read64(from(f, Token::TIME));
+    let time = u64::read(from(f, Token::TIME));
     let request = TokenRequest {
         client: &client,
         key: &key,
@@ -104,12 +104,12 @@ fn resource(f: &[u8], ledger: &mut [u8]) -> Answer
 {
     let token = value(cut(f, Resource::TOKEN, Value::WIDTH));
     let key = value(cut(f, Resource::KEY, Key::WIDTH));
-    let time = read64(from(f, Resource::TIME));
+    let time = u64::read(from(f, Resource::TIME));
     let request = ResourceRequest {
         token: &token,
         presented: &key,
-        scope: read32(from(f, Resource::SCOPE)),
-        holder: read64(from(f, Resource::HOLDER)),
+        scope: u32::read(from(f, Resource::SCOPE)),
+        holder: u64::read(from(f, Resource::HOLDER)),
     };
     resource::resource(ledger, time, request)
 }
@@ -117,7 +117,7 @@ fn resource(f: &[u8], ledger: &mut [u8]) -> Answer
 fn sweep(f: &[u8], ledger: &mut [u8]) -> Swept
     ensures { left result ledger.new ≡ sweep ledger.old (time f.now) }
 {
-    sweep::sweep(ledger, read64(from(f, Sweep::TIME)))
+    sweep::sweep(ledger, u64::read(from(f, Sweep::TIME)))
 }
 
 fn blank_redirect() -> [u8; Redirect::MOST]
