@@ -4,9 +4,9 @@ use native.Mathlib.Omega.{arith}
 use mathlib.Core.Path.{◌≡◌, refl, sym, ap, ◌∙◌}
 use mathlib.Core.Logic.{⊎_elim}
 use mathlib.Core.Bool.{Bool, true}
-use mathlib.Core.List.{List, [], ◌∷◌, ◌++◌, append_assoc, append-nil}
+use mathlib.Core.List.{List, [], ◌∷◌, ◌++◌, append_assoc}
 use lib.Dec.{leb}
-use lib.ListN.{length, get_or, take, drop, set, length-append, length-drop, length-set, drop_of_length-le, get_or-append}
+use lib.ListN.{length, get_or, take, drop, set, length-append, length-drop, length-set, get_or-append}
 use lib.Seq.{take-suc, take_all, drop-cons, drop-set-lt, get_or-set_same}
 use borrow.Author.Tests.{lt-ltb, le-ltb, le-leb, leb-true}
 use Rattle.octets.specs.Lists.{every}
@@ -174,17 +174,6 @@ pub record Spelled (n : ℕ) (t : List ℕ) (at rest : ℕ) : Type 0 where
   pub sized : length t ≡ decimal_most
   pub fits : rest < 10 ^ at
   pub goes : decimal n ≡ decimal rest ++ drop at t
-
-pub spelled_none : (n : ℕ) (t : List ℕ) → n < 2 ^ 64 → length t ≡ decimal_most → Spelled n t decimal_most n
-spelled_none n t h l =
-    let e : length t ≤ decimal_most = omega arith in
-    record {
-      some = omega arith;
-      within = omega arith;
-      sized = l;
-      fits = omega arith;
-      goes = sym (append-nil (decimal n)) ∙ ap (λ (s : List ℕ). decimal n ++ s) (sym (drop_of_length-le t e));
-    }
 
 fewer : (a r : ℕ) → 10 ≤ r → r < 10 ^ a → (1 < a) × (r / 10 < 10 ^ (a - 1))
 fewer zero r h k = absurd (omega arith)

@@ -1,15 +1,21 @@
 -- Laws of hexadecimal digits, and of texts of them.
 use Prim.Native.Nat.{ℕ, ◌-◌, ◌%◌, ◌≤◌, ◌<◌}
 use native.Mathlib.Omega.{arith}
-use mathlib.Core.Path.{◌≡◌, refl}
-use mathlib.Core.Bool.{Bool, true, false, ◌||◌, and-false}
-use mathlib.Core.List.{List}
+use mathlib.Core.Path.{◌≡◌, refl, sym, ◌∙◌}
+use mathlib.Core.Bool.{Bool, true, false, ◌||◌, and-false, or_assoc}
+use mathlib.Core.List.{List, [], ◌∷◌}
+use mathlib.Core.Logic.{⊎_elim}
+use Rattle.std.specs.Char.{is_ascii_hexdigit}
+use Rattle.std.specs.List.{list_all}
+use Rattle.std.specs.Option.{IsSome}
+use Rattle.std.specs.Prelude.{Option, Some, None, cond}
+use Rattle.std.proofs.lemmas.Option.{cond_some}
 use lib.Dec.{eqb, leb}
 use lib.ListN.{length, get_or}
 use borrow.Author.Tests.{leb-true, le-leb, lt-leb, ne_eqb, eq-eqb}
 use Rattle.octets.specs.Lists.{every}
 use Rattle.octets.proofs.Lists.{every_at}
-use Rattle.octets.proofs.Tests.{both}
+use Rattle.octets.proofs.Tests.{both, lt_or_le}
 use Rattle.texts.specs.Hex.{between, is_digit, digit, is_hex}
 
 module _ (a b c : ℕ) where
@@ -27,25 +33,9 @@ module _ (a b c : ℕ) where
 
 -- whether a character is a digit, by where it stands
 module _ (c : ℕ) where
-  pub before_digits : c < 48 → is_digit c ≡ false
-  unfolding is_digit
-  before_digits h = rw (below 48 57 c h, below 65 70 c (omega arith), below 97 102 c (omega arith))
-
   pub at_digits : 48 ≤ c → c ≤ 57 → is_digit c ≡ true
   unfolding is_digit
   at_digits h k = rw (inside 48 57 c h k)
-
-  pub before_upper : 57 < c → c < 65 → is_digit c ≡ false
-  unfolding is_digit
-  before_upper h k = rw (above 48 57 c h, below 65 70 c k, below 97 102 c (omega arith))
-
-  pub at_upper : 65 ≤ c → c ≤ 70 → is_digit c ≡ true
-  unfolding is_digit
-  at_upper h k = rw (above 48 57 c (omega arith), inside 65 70 c h k)
-
-  pub before_lower : 70 < c → c < 97 → is_digit c ≡ false
-  unfolding is_digit
-  before_lower h k = rw (above 48 57 c (omega arith), above 65 70 c h, below 97 102 c k)
 
   pub from_lower : 97 ≤ c → is_digit c ≡ leb c 102
   unfolding is_digit
@@ -85,6 +75,23 @@ module _ (c : ℕ) where
   unfolding digit
   digit_lower h = let k : 57 < c = omega arith in rw (lt-leb c 57 k, lt-leb c 70 h)
 
+pub digit_below : (c : ℕ) → is_digit c ≡ true → digit c < 16
+digit_below c e =
+    let p = placed c e in
+    ⊎_elim (λ l. omega (arith, digit_low c (omega arith)))
+    (λ l. ⊎_elim (λ k. omega (arith, digit_upper c (omega arith) (omega arith))) (λ k. omega (arith, digit_lower c (omega arith), p.most)) (lt_or_le c 71))
+    (lt_or_le c 58)
+
+-- what a digit is read as
+module _ (c : ℕ) {r : Option ℕ} (told : r ≡ cond (is_digit c) (Some (digit c)) None) where
+  pub digit_some : is_digit c ≡ true → IsSome r
+  digit_some e = rw (told, e) refl
+
+  pub digit_read : {d : ℕ} → r ≡ Some d → (d ≡ digit c) × (d < 16)
+  digit_read {d} e =
+      let v = cond_some (is_digit c) (digit c) d (sym told ∙ e) in
+      (sym v.1, rw (← v.1) (digit_below c v.0))
+
 pub hex_at : (l : List ℕ) (i : ℕ) → is_hex l ≡ true → i < length l → is_digit (get_or l i 0) ≡ true
 unfolding is_hex
 hex_at l i e h = every_at is_digit l 0 (both (eqb (length l % 2) 0) (every is_digit l) e).1 i h
@@ -96,3 +103,12 @@ hex_odd l n = rw (ne_eqb (length l % 2) 0 n)
 pub hex_of : (l : List ℕ) → length l % 2 ≡ 0 → is_hex l ≡ every is_digit l
 unfolding is_hex
 hex_of l e = rw (eq-eqb (length l % 2) 0 e)
+
+-- the library's test of all, and its test of a digit
+pub all_every : {A : Type 0} (p q : A → Bool) → ((x : A) → p x ≡ q x) → (l : List A) → list_all p l ≡ every q l
+all_every p q e [] = refl
+all_every p q e (x ∷ xs) = rw (e x, all_every p q e xs)
+
+pub hexdigit_is : (c : ℕ) → is_ascii_hexdigit c ≡ is_digit c
+unfolding is_digit
+hexdigit_is c = or_assoc (between 48 57 c) (between 65 70 c) (between 97 102 c)
