@@ -7,6 +7,7 @@ use mathlib.Core.Path.{◌≡◌, refl, sym, ap, ◌∙◌}
 use mathlib.Core.Bool.{Bool, true, false, cond}
 use mathlib.Core.List.{List, [], ◌∷◌, ◌++◌, map, append_assoc, append-nil}
 use lib.ListN.{length, length-append}
+use Rattle.std.proofs.lemmas.List.{map-append}
 use borrow.Author.Tests.{eq-eqb, ne_eqb}
 use Rattle.octets.proofs.Tests.{lt_or_le}
 use Rattle.texts.proofs.Decimals.{most_in}
@@ -22,10 +23,6 @@ spaced_more : (v : List ℕ) (ws : List (List ℕ)) (w : List ℕ) → spaced ((
 unfolding spaced
 spaced_more v [] w = refl
 spaced_more v (u ∷ ws) w = ap (λ (t : List ℕ). v ++ (32 ∷ t)) (spaced_more u ws w) ∙ sym (append_assoc v _ _)
-
-map_more : {A B : Type 0} (f : A → B) (xs : List A) (y : A) → map f (xs ++ (y ∷ [])) ≡ map f xs ++ (f y ∷ [])
-map_more f [] y = refl
-map_more f (x ∷ xs) y = ap (λ (t : List _). f x ∷ t) (map_more f xs y)
 
 pub length_name : (i : ℕ) → 1 ≤ length (scope_name i)
 unfolding scope_name
@@ -44,7 +41,7 @@ add_word (b ∷ bits) i =
     let l = length_spaced (scope_name b) ws in
     let k = length_name b in
     let n : length (spaced (scope_name b ∷ ws)) ≡ 0 → ⊥ = λ e. omega arith in
-    ap spaced (map_more scope_name (b ∷ bits) i) ∙ spaced_more (scope_name b) ws (scope_name i) ∙ rw (ne_eqb (length (spaced (scope_name b ∷ ws))) 0 n)
+    ap spaced (map-append scope_name (b ∷ bits) (i ∷ [])) ∙ spaced_more (scope_name b) ws (scope_name i) ∙ rw (ne_eqb (length (spaced (scope_name b ∷ ws))) 0 n)
 
 pub bits_set : (s i : ℕ) → is_set s i ≡ true → bits_below s (suc i) ≡ bits_below s i ++ (i ∷ [])
 unfolding bits_below
