@@ -1,21 +1,17 @@
 -- Laws of hexadecimal digits, and of texts of them.
 use Prim.Native.Nat.{ℕ, ◌-◌, ◌%◌, ◌≤◌, ◌<◌}
 use native.Mathlib.Omega.{arith}
-use mathlib.Core.Path.{◌≡◌, refl, sym, ◌∙◌}
-use mathlib.Core.Bool.{Bool, true, false, ◌||◌, and-false, or_assoc}
+use mathlib.Core.Path.{◌≡◌, refl}
+use mathlib.Core.Bool.{Bool, true, false, and-false, or_assoc}
 use mathlib.Core.List.{List, [], ◌∷◌}
-use mathlib.Core.Logic.{⊎_elim}
 use Rattle.std.specs.Char.{is_ascii_hexdigit}
 use Rattle.std.specs.List.{list_all}
-use Rattle.std.specs.Option.{IsSome}
-use Rattle.std.specs.Prelude.{Option, Some, None, cond}
-use Rattle.std.proofs.lemmas.Option.{cond_some}
 use lib.Dec.{eqb, leb}
 use lib.ListN.{length, get_or}
 use borrow.Author.Tests.{leb-true, le-leb, lt-leb, ne_eqb, eq-eqb}
 use Rattle.octets.specs.Lists.{every}
 use Rattle.octets.proofs.Lists.{every_at}
-use Rattle.octets.proofs.Tests.{both, lt_or_le}
+use Rattle.octets.proofs.Tests.{both}
 use Rattle.texts.specs.Hex.{between, is_digit, digit, is_hex}
 
 module _ (a b c : ℕ) where
@@ -41,26 +37,6 @@ module _ (c : ℕ) where
   unfolding is_digit
   from_lower h = rw (above 48 57 c (omega arith), above 65 70 c (omega arith), le-leb 97 c h)
 
--- a digit is in one of the three places
-cases : (p q r : Bool) → (p || (q || r)) ≡ true → {P : Type 0} → (p ≡ true → P) → (q ≡ true → P) → (r ≡ true → P) → P
-cases true q r e f g h = f refl
-cases false true r e f g h = g refl
-cases false false r e f g h = h e
-
-pub record Placed (c : ℕ) : Type 0 where
-  pub least : 48 ≤ c
-  pub most : c ≤ 102
-  pub upper : 57 < c → 65 ≤ c
-  pub lower : 70 < c → 97 ≤ c
-
-pub placed : (c : ℕ) → is_digit c ≡ true → Placed c
-unfolding is_digit
-placed c e =
-    cases (between 48 57 c) (between 65 70 c) (between 97 102 c) e
-    (λ p. let w = within 48 57 c p in record { least = omega arith; most = omega arith; upper = λ h. absurd (omega arith); lower = λ h. absurd (omega arith) })
-    (λ p. let w = within 65 70 c p in record { least = omega arith; most = omega arith; upper = λ h. omega arith; lower = λ h. absurd (omega arith) })
-    (λ p. let w = within 97 102 c p in record { least = omega arith; most = omega arith; upper = λ h. omega arith; lower = λ h. omega arith })
-
 -- what it stands for
 module _ (c : ℕ) where
   pub digit_low : c ≤ 57 → digit c ≡ c - 48
@@ -74,23 +50,6 @@ module _ (c : ℕ) where
   pub digit_lower : 70 < c → digit c ≡ c - 87
   unfolding digit
   digit_lower h = let k : 57 < c = omega arith in rw (lt-leb c 57 k, lt-leb c 70 h)
-
-pub digit_below : (c : ℕ) → is_digit c ≡ true → digit c < 16
-digit_below c e =
-    let p = placed c e in
-    ⊎_elim (λ l. omega (arith, digit_low c (omega arith)))
-    (λ l. ⊎_elim (λ k. omega (arith, digit_upper c (omega arith) (omega arith))) (λ k. omega (arith, digit_lower c (omega arith), p.most)) (lt_or_le c 71))
-    (lt_or_le c 58)
-
--- what a digit is read as
-module _ (c : ℕ) {r : Option ℕ} (told : r ≡ cond (is_digit c) (Some (digit c)) None) where
-  pub digit_some : is_digit c ≡ true → IsSome r
-  digit_some e = rw (told, e) refl
-
-  pub digit_read : {d : ℕ} → r ≡ Some d → (d ≡ digit c) × (d < 16)
-  digit_read {d} e =
-      let v = cond_some (is_digit c) (digit c) d (sym told ∙ e) in
-      (sym v.1, rw (← v.1) (digit_below c v.0))
 
 pub hex_at : (l : List ℕ) (i : ℕ) → is_hex l ≡ true → i < length l → is_digit (get_or l i 0) ≡ true
 unfolding is_hex

@@ -1,20 +1,20 @@
 // Hexadecimal, two digits a byte: either case in, lower case out (RFC 4648, section 8).
-ghost use Rattle.std.specs.Prelude.{◌≡◌, true, cond, Some, None, ◌*◌, ◌+◌, ◌<◌, length};
+ghost use Rattle.std.specs.Prelude.{◌≡◌, true, ◌*◌, ◌+◌, ◌<◌, length};
 ghost use Rattle.octets.specs.Parts.{laid, put};
 ghost use Rattle.texts.specs.Hex.{is_digit, digit, is_hex, pair_at, decoded, decoded_over, glyph, glyph_at, hex};
 
 use super::spelling::lay;
 
-// What a digit of either case stands for.
+// What a digit of either case stands for. The text has been tested, so no digit is tested once more.
 #[tactic(auto, unfolding(crate::specs::Hex::is_digit, crate::specs::Hex::digit))]
-fn digit(c: u8) -> Option<u8>
-    ensures { result ≡ cond (is_digit c) (Some (digit c)) None }
+fn digit(c: u8) -> u8
+    requires { is_digit c ≡ true }
+    ensures { (result ≡ digit c) × (result < 16) }
 {
     match c {
-        b'0'..=b'9' => Some(c - b'0'),
-        b'A'..=b'F' => Some(c - b'A' + 10),
-        b'a'..=b'f' => Some(c - b'a' + 10),
-        _ => None,
+        ..=b'9' => c - b'0',
+        ..=b'F' => c - b'A' + 10,
+        _ => c - b'a' + 10,
     }
 }
 
@@ -24,11 +24,12 @@ pub fn is_hex(text: &[u8]) -> bool
     text.len() % 2 == 0 && text.iter().all(u8::is_ascii_hexdigit)
 }
 
+#[tactic(auto, using(crate::proofs::Digits::hex_at), unfolding(crate::specs::Hex::pair_at))]
 fn pair_at(text: &[u8], i: usize) -> u8
     requires { (is_hex text.now ≡ true) × (2 * i + 1 < length text.now) }
     ensures { result ≡ pair_at text.now i }
 {
-    16 * digit(text[2 * i]).unwrap() + digit(text[2 * i + 1]).unwrap()
+    16 * digit(text[2 * i]) + digit(text[2 * i + 1])
 }
 
 // The bytes over the front of the output.
