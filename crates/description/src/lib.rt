@@ -1,5 +1,5 @@
-// Description: the text that describes a live token to the figure servers (document 02, Q-1): one JSON object, written member by member. It rests on
-// texts for hexadecimal, decimal and base64url.
+// Description: the text that describes a live token to the figure servers (document 02, Q-1): one JSON object, written piece by piece. It rests on texts
+// for hexadecimal, decimal and base64url.
 #![tactic(auto)]
 
 ghost use Rattle.std.specs.Prelude.{◌≡◌, ◌+◌, ◌*◌, ◌<◌, ◌^◌, leb, length};
@@ -9,9 +9,10 @@ ghost use Rattle.description.specs.Apart.{live_most, widest_most};
 ghost use Rattle.description.specs.Writing.{written, written_over};
 
 use octets::part::put;
+use writer::Writer;
 
-mod member;
 mod scope;
+mod writer;
 
 #[derive(Clone, Copy)]
 pub struct Description {}
@@ -41,11 +42,19 @@ fn spell(out: &mut [u8], client: &[u8], holder: u64, expiry: u64, scope: u32, ke
     requires { 2 * length client.now + length key.now < 2 ^ 63 }
     ensures { (result ≡ length (live_text (described client.now holder expiry scope key.now))) × (out.new ≡ put out.old 0 (live_text (described client.now holder expiry scope key.now))) }
 {
-    let at = member::client(out, 0, client);
-    let at = member::sub(out, at, holder);
-    let at = member::exp(out, at, expiry);
-    let at = member::scope(out, at, scope);
-    member::cnf(out, at, key)
+    let mut writer = Writer { out, at: 0 };
+    writer.text(b"{\"active\":true,\"client_id\":\"");
+    writer.hex(client);
+    writer.text(b"\",\"sub\":\"");
+    writer.decimal(holder);
+    writer.text(b"\",\"exp\":");
+    writer.decimal(expiry);
+    writer.text(b",\"scope\":\"");
+    writer.scope(scope);
+    writer.text(b"\",\"cnf\":{\"x5t#S256\":\"");
+    writer.base64url(key);
+    writer.text(b"\"}}");
+    writer.at
 }
 
 // Whether the digits of the client and the bytes of the key alone have room: where not, the text has none either, and its length may be past a usize.
@@ -69,8 +78,7 @@ pub fn live(
     if !has_room(out.len(), client.len(), key.len()) {
         return None;
     }
-    let mut none = [0u8; 0];
-    let n = spell(&mut none, client, holder, expiry, scope, key);
+    let n = spell(&mut [], client, holder, expiry, scope, key);
     if out.len() < n {
         return None;
     }
