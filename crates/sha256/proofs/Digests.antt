@@ -1,14 +1,12 @@
 -- Laws of the digest (FIPS 180-4, section 6.2.2, the end).
-use Rattle.std.proofs.Common.{◌≡◌, ℕ, zero, suc, ◌+◌, ◌-◌, ◌*◌, ◌/◌, ◌%◌, ◌^◌, ◌<◌, ◌≤◌, List, [], ◌∷◌, ◌++◌, length, get_or, sym, refl, ap, ◌∙◌, ⊎_elim, add-one, arith, lit<, length-append, get_or-append-add, ext_get_or}
-use lib.ListN.{get_or-append, get_or-eq_default}
-use Rattle.octets.specs.Lists.{tabulate}
+use Rattle.std.proofs.Common.{◌≡◌, ℕ, zero, suc, ◌+◌, ◌*◌, ◌/◌, ◌<◌, List, [], ◌∷◌, length, get_or, sym, refl, ◌∙◌, add-one, arith, length-append}
+use Rattle.std.specs.Int.{w32, to_be_bytes}
+use Rattle.std.specs.List.{flat_map}
 use Rattle.octets.specs.Numbers.{digits}
-use Rattle.octets.proofs.Numbers.{length_digits}
-use Rattle.octets.proofs.Tabulate.{length_tabulate, get_d_tabulate}
-use Rattle.octets.proofs.Tests.{lt_or_le}
+use Rattle.octets.proofs.Numbers.{Octets, length_digits, octets_digits}
+use Rattle.octets.proofs.Bytes.{octets_append}
 use Rattle.sha256.specs.Pad.{pad, blocks, block}
 use Rattle.sha256.specs.Hash.{added, compress, hash_value, joined, sha256}
-use Rattle.sha256.proofs.Digits.{get_or_digits}
 
 -- ---- words one after the other
 
@@ -17,33 +15,29 @@ unfolding joined
 length_joined [] = refl
 length_joined (w ∷ ws) = rw (length-append, length_digits, length_joined ws) (omega arith)
 
--- byte i of the words ws, as the code computes it
-abbrev pub byte_of : List ℕ → ℕ → ℕ
-byte_of ws i = get_or ws (i / 4) 0 / 2 ^ (8 * (3 - i % 4)) % 2 ^ 8
+-- the four bytes of a word
+digits_be : (w : ℕ) → digits 4 w ≡ to_be_bytes w32 w
+unfolding digits
+digits_be w =
+    let a : w / 256 / 256 / 256 ≡ w / 16777216 = omega arith in
+    let b : w / 256 / 256 ≡ w / 65536 = omega arith in
+    cc
 
-get_or_joined : (ws : List ℕ) (i : ℕ) → i < 4 * length ws → get_or (joined ws) i 0 ≡ byte_of ws i
+-- the bytes of each word, put together
+pub joined_be : (ws : List ℕ) (bs : List (List ℕ)) → length bs ≡ length ws → ((i : ℕ) → i < length ws → get_or bs i [] ≡ to_be_bytes w32 (get_or ws i 0))
+    → flat_map (λ x. x) bs ≡ joined ws
 unfolding joined
-get_or_joined [] i h = absurd (omega arith)
-get_or_joined (w ∷ ws) i h =
-    ⊎_elim (λ k.
-    let q : i / 4 ≡ 0 = omega arith in
-    let r : 3 - i % 4 ≡ 4 - suc i = omega arith in
-    let s : i < length (digits 4 w) = omega (arith, length_digits 4 w) in
-    rw (q, r) (get_or-append (digits 4 w) (joined ws) 0 i s ∙ get_or_digits 4 w i k))
-    (λ k.
-    let q : i / 4 ≡ suc ((i - 4) / 4) = omega arith in
-    let r : i % 4 ≡ (i - 4) % 4 = omega arith in
-    let s : length (digits 4 w) + (i - 4) ≡ i = omega (arith, length_digits 4 w) in
-    ap (λ j. get_or (digits 4 w ++ joined ws) j 0) (sym s)
-    ∙ get_or-append-add (digits 4 w) (joined ws) (i - 4) 0 ∙ get_or_joined ws (i - 4) (omega arith) ∙ rw (q, r))
-    (lt_or_le i 4)
+joined_be [] [] e h = refl
+joined_be [] (b ∷ bs) e h = absurd (omega arith)
+joined_be (w ∷ ws) [] e h = absurd (omega arith)
+joined_be (w ∷ ws) (b ∷ bs) e h =
+    let first : b ≡ digits 4 w = h 0 (omega arith) ∙ sym (digits_be w) in
+    rw (first, joined_be ws bs (omega arith) (λ i k. h (suc i) (omega arith)))
 
-pub joined_table : (ws : List ℕ) (n : ℕ) → n ≡ 4 * length ws → tabulate (byte_of ws) n ≡ joined ws
-joined_table ws n e =
-    ext_get_or 0 _ _ (omega (arith, length_tabulate (byte_of ws) n, length_joined ws))
-    (λ i h.
-    let k : i < n = omega (arith, length_tabulate (byte_of ws) n) in
-    get_d_tabulate (byte_of ws) 0 n i k ∙ sym (get_or_joined ws i (omega arith)))
+bytes_joined : (ws : List ℕ) → Octets (joined ws)
+unfolding joined
+bytes_joined [] i = omega arith
+bytes_joined (w ∷ ws) i = octets_append (digits 4 w) (joined ws) (octets_digits 4 w) (bytes_joined ws) i
 
 -- ---- a hash value
 
@@ -63,15 +57,6 @@ length_hash p (suc i) = refl
 pub length_sha256 : (m : List ℕ) → length (sha256 m) ≡ 32
 unfolding sha256
 length_sha256 m = omega (arith, length_joined (hash_value (pad m) (blocks m)), length_hash (pad m) (blocks m))
-
-bytes_joined : (ws : List ℕ) (i : ℕ) → get_or (joined ws) i 0 < 256
-bytes_joined ws i =
-    ⊎_elim (λ k. rw (get_or_joined ws i k) (omega arith))
-    (λ k. rw (get_or-eq_default (joined ws) 0 (past k)) (lit< tt))
-    (lt_or_le i (4 * length ws))
-  where
-    past : 4 * length ws ≤ i → length (joined ws) ≤ i
-    past k = omega (arith, length_joined ws)
 
 -- each is below 256
 pub bytes_sha256 : (m : List ℕ) (i : ℕ) → get_or (sha256 m) i 0 < 256

@@ -1,5 +1,5 @@
--- The laws of SHA-256: of a number's bytes, of padding, of the words W_t, of a digest.
-pub mod Digits
+-- The laws of SHA-256: of padding, of the words W_t, of a digest.
+pub mod Chunks
 pub mod Padding
 pub mod Words
 pub mod Digests

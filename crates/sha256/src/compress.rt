@@ -1,11 +1,10 @@
 // The next hash value, from the one before and a block (FIPS 180-4, sections 5.3.3 and 6.2.2).
-ghost use Rattle.std.specs.Prelude.{◌≡◌, length};
+ghost use Rattle.std.specs.Prelude.{◌≡◌};
 ghost use Rattle.sha256.specs.Constants.{initial};
 ghost use Rattle.sha256.specs.Hash.{working, added, compress};
 
 use super::round::{Working, rounds};
 use super::schedule::schedule;
-use std::num::wrapping_add_u32;
 
 pub fn initial() -> [u32; 8]
     ensures { result ≡ initial }
@@ -25,35 +24,37 @@ pub fn initial() -> [u32; 8]
 fn working(h: &[u32; 8]) -> Working
     ensures { result ≡ working h.now }
 {
+    let [a, b, c, d, e, f, g, h] = *h;
     Working {
-        a: h[0],
-        b: h[1],
-        c: h[2],
-        d: h[3],
-        e: h[4],
-        f: h[5],
-        g: h[6],
-        h: h[7],
+        a,
+        b,
+        c,
+        d,
+        e,
+        f,
+        g,
+        h,
     }
 }
 
+#[tactic(auto, unfolding(crate::specs::Hash::added))]
 fn added(s: Working, h: &[u32; 8]) -> [u32; 8]
     ensures { result ≡ added s h.now }
 {
     [
-        wrapping_add_u32(s.a, h[0]),
-        wrapping_add_u32(s.b, h[1]),
-        wrapping_add_u32(s.c, h[2]),
-        wrapping_add_u32(s.d, h[3]),
-        wrapping_add_u32(s.e, h[4]),
-        wrapping_add_u32(s.f, h[5]),
-        wrapping_add_u32(s.g, h[6]),
-        wrapping_add_u32(s.h, h[7]),
+        s.a.wrapping_add(h[0]),
+        s.b.wrapping_add(h[1]),
+        s.c.wrapping_add(h[2]),
+        s.d.wrapping_add(h[3]),
+        s.e.wrapping_add(h[4]),
+        s.f.wrapping_add(h[5]),
+        s.g.wrapping_add(h[6]),
+        s.h.wrapping_add(h[7]),
     ]
 }
 
-pub fn compress(h: &[u32; 8], b: &[u8]) -> [u32; 8]
-    requires { length b.now ≡ 64 }
+#[tactic(auto, unfolding(crate::specs::Hash::compress))]
+pub fn compress(h: &[u32; 8], b: &[u8; 64]) -> [u32; 8]
     ensures { result ≡ compress h.now b.now }
 {
     let w = schedule(b);

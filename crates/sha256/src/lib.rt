@@ -12,6 +12,7 @@ mod round;
 mod schedule;
 mod word;
 
+#[tactic(auto, unfolding(crate::specs::Hash::sha256))]
 pub fn digest(m: &[u8]) -> [u8; 32]
     ensures { result ≡ sha256 m.now }
 {
