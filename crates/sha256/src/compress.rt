@@ -1,41 +1,21 @@
 // The next hash value, from the one before and a block (FIPS 180-4, sections 5.3.3 and 6.2.2).
 ghost use Rattle.std.specs.Prelude.{◌≡◌};
-ghost use Rattle.sha256.specs.Constants.{initial};
-ghost use Rattle.sha256.specs.Hash.{working, added, compress};
+ghost use Rattle.sha256.specs.Hash.{added, compress};
 
 use super::round::{Working, rounds};
 use super::schedule::schedule;
 
-pub fn initial() -> [u32; 8]
-    ensures { result ≡ initial }
-{
-    [
-        0x6a09_e667,
-        0xbb67_ae85,
-        0x3c6e_f372,
-        0xa54f_f53a,
-        0x510e_527f,
-        0x9b05_688c,
-        0x1f83_d9ab,
-        0x5be0_cd19,
-    ]
-}
-
-fn working(h: &[u32; 8]) -> Working
-    ensures { result ≡ working h.now }
-{
-    let [a, b, c, d, e, f, g, h] = *h;
-    Working {
-        a,
-        b,
-        c,
-        d,
-        e,
-        f,
-        g,
-        h,
-    }
-}
+// The initial hash value, H(0).
+pub const INITIAL: [u32; 8] = [
+    0x6a09_e667,
+    0xbb67_ae85,
+    0x3c6e_f372,
+    0xa54f_f53a,
+    0x510e_527f,
+    0x9b05_688c,
+    0x1f83_d9ab,
+    0x5be0_cd19,
+];
 
 #[tactic(auto, unfolding(crate::specs::Hash::added))]
 fn added(s: Working, h: &[u32; 8]) -> [u32; 8]
@@ -58,5 +38,5 @@ pub fn compress(h: &[u32; 8], b: &[u8; 64]) -> [u32; 8]
     ensures { result ≡ compress h.now b.now }
 {
     let w = schedule(b);
-    added(rounds(&w, working(h)), h)
+    added(rounds(&w, Working::from(*h)), h)
 }

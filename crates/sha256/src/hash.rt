@@ -3,14 +3,14 @@ ghost use Rattle.std.specs.Prelude.{◌≡◌, ◌/◌, length};
 ghost use Rattle.sha256.specs.Hash.{hash_value, joined};
 ghost use Rattle.sha256.specs.Pad.{pad, blocks};
 
-use super::compress::{compress, initial};
+use super::compress::{INITIAL, compress};
 use super::pad::{block, blocks};
 
 // After the blocks that hold nothing but the message, which are read where they stand.
 fn whole(m: &[u8]) -> [u32; 8]
     ensures { result ≡ hash_value (pad m.now) (length m.now / 64) }
 {
-    let mut h = initial();
+    let mut h = INITIAL;
     for b in m.as_chunks::<64>().0 {
         h = compress(&h, b);
     }

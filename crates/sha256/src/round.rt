@@ -85,6 +85,25 @@ pub struct Working {
     pub h: u32,
 }
 
+impl From<[u32; 8]> for Working {
+    ghost use Rattle.sha256.specs.Hash.{working};
+
+    ghost from_gives = { λ hash s. s ≡ working hash };
+
+    fn from([a, b, c, d, e, f, g, h]: [u32; 8]) -> Working {
+        Working {
+            a,
+            b,
+            c,
+            d,
+            e,
+            f,
+            g,
+            h,
+        }
+    }
+}
+
 impl Working {
     #[tactic(auto, unfolding(crate::specs::Round::T1))]
     fn t1(self, k: u32, w: u32) -> u32
@@ -121,17 +140,16 @@ impl Working {
     }
 }
 
-pub fn rounds(w: &[u32; 64], s: Working) -> Working
+pub fn rounds(w: &[u32; 64], mut s: Working) -> Working
     ensures { result ≡ rounds w.now s 64 }
 {
-    let mut x = s;
     // four in a row, so that the words are moved from variable to variable once and not four times
     for t in (0..64).step_by(4) {
-        x = x
+        s = s
             .round(K[t], w[t])
             .round(K[t + 1], w[t + 1])
             .round(K[t + 2], w[t + 2])
             .round(K[t + 3], w[t + 3]);
     }
-    x
+    s
 }

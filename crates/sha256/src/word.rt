@@ -14,6 +14,7 @@ pub fn maj(x: u32, y: u32, z: u32) -> u32
     (x & y) ^ (x & z) ^ (y & z)
 }
 
+// The standard names these four, each with its places: one function with the places as const parameters would still need all four names.
 pub fn big0(x: u32) -> u32
     ensures { result ≡ Σ0 x }
 {

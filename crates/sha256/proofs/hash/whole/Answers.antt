@@ -1,4 +1,4 @@
-use Rattle.std.proofs.Common.{arith}
+use Rattle.std.proofs.Common.{refl, arith}
 use Rattle.sha256.specs.Hash.{hash_value}
 use Rattle.sha256.proofs.Padding.{chunk_block}
 use Rattle.sha256.proofs.Digests.{hash_more}
@@ -6,7 +6,7 @@ use Rattle.sha256.proofs.hash.whole.Goals as goal
 
 pub loop-b-init : goal.loop-b-init
 unfolding hash_value
-loop-b-init c = c.initial-h.ensures
+loop-b-init c = refl
 
 pub loop-b-preserved : goal.loop-b-preserved
 loop-b-preserved c =

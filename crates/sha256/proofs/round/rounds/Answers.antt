@@ -15,7 +15,7 @@ loop-t-preserved c =
     let t = c.loop-t.t in (
       omega arith,
       omega arith,
-      one_more _ s (t + 3) (t + 4) (omega arith) c.round-x.ensures
+      one_more _ s (t + 3) (t + 4) (omega arith) c.round-s.ensures
           (one_more _ s (t + 2) (t + 3) (omega arith) c.round-in-loop-t-2.ensures
           (one_more _ s (t + 1) (t + 2) (omega arith) c.round-in-loop-t.ensures
           (one_more _ s t (t + 1) (omega arith) c.round.ensures c.loop-t.invariant.2))),
