@@ -5,7 +5,6 @@ use mathlib.Core.Path.{◌≡◌, refl, sym, ap, ◌∙◌}
 use mathlib.Core.Logic.{◌↔◌}
 use mathlib.Core.Bool.{Bool, true, false, true≢false}
 use mathlib.Core.List.{List}
-use Rattle.octets.specs.Parts.{same}
 use Rattle.octets.proofs.Parts.{same_eq, same_refl}
 use Rattle.octets.proofs.Tests.{false_of}
 use Rattle.forms.specs.Forms.{challenge_formed}
@@ -17,12 +16,6 @@ use Rattle.s256.specs.declared.Match.TheVariants.{Same, Differs}
 use Rattle.s256.proofs.Texts.{base64url_challenge}
 
 module _ (verifier challenge : List ℕ) where
-  -- the answer, from the digest, its text and the comparison
-  pub matching_is : {digest text : List ℕ} {b : Bool} → digest ≡ sha256 verifier → text ≡ base64url digest → b ≡ same text challenge
-      → match_if b ≡ matching verifier challenge
-  unfolding matching matches
-  matching_is d t b = rw (b, t, d)
-
   -- base64url without padding of SHA-256 of the verifier is the challenge
   pub matches_says : (matches verifier challenge ≡ true) ↔ (base64url (sha256 verifier) ≡ challenge)
   unfolding matches

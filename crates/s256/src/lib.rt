@@ -14,12 +14,14 @@ pub enum Match {
     Differs,
 }
 
+#[tactic(auto, unfolding(crate::specs::Rule::matching, crate::specs::Rule::matches))]
 pub fn matches(verifier: &[u8], challenge: &[u8]) -> Match
     ensures { result ≡ matching verifier.now challenge.now }
 {
     let text = base64url::base64url(sha256::digest(verifier));
     if octets::part::same(&text, challenge) {
-        return Match::Same;
+        Match::Same
+    } else {
+        Match::Differs
     }
-    Match::Differs
 }
