@@ -7,6 +7,7 @@ use super::compress::{INITIAL, compress};
 use super::pad::{block, blocks};
 
 // After the blocks that hold nothing but the message, which are read where they stand.
+#[tactic(auto, using(crate::proofs::Digests::hash_more, crate::proofs::Padding::chunk_block), unfolding(crate::specs::Hash::hash_value))]
 fn whole(m: &[u8]) -> [u32; 8]
     ensures { result ≡ hash_value (pad m.now) (length m.now / 64) }
 {
@@ -18,6 +19,7 @@ fn whole(m: &[u8]) -> [u32; 8]
 }
 
 // After all blocks: the last one or two hold the padding.
+#[tactic(auto, using(crate::proofs::Digests::hash_more, crate::proofs::Padding::blocks_of))]
 pub fn hash(m: &[u8]) -> [u32; 8]
     ensures { result ≡ hash_value (pad m.now) (blocks m.now) }
 {
@@ -28,6 +30,7 @@ pub fn hash(m: &[u8]) -> [u32; 8]
     h
 }
 
+#[tactic(auto, using(crate::proofs::Digests::joined_be))]
 pub fn joined(ws: [u32; 8]) -> [u8; 32]
     ensures { result ≡ joined ws }
 {

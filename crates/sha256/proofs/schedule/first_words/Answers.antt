@@ -1,4 +1,4 @@
-use Rattle.std.proofs.Common.{arith, refl, ◌≡◌, ◌∙◌}
+use Rattle.std.proofs.Common.{arith, refl, ◌∙◌}
 use Rattle.octets.proofs.Tabulate.{filled_none, filled_more}
 use Rattle.sha256.proofs.Words.{chunk_word}
 use Rattle.sha256.proofs.schedule.first_words.Goals as goal
@@ -11,6 +11,3 @@ loop-t-preserved c =
     let i = c.loop-t in
     filled_more _ 64 i.w i.t _ i.invariant (omega arith)
     (c.from_be_bytes.ensures ∙ chunk_word c.args.b.now c.as_chunks.result.0.now i.t c.as_chunks.ensures.front c.told-b (omega arith))
-
-pub returns : goal.returns
-returns c = let e : c.loop-t.t ≡ 16 = omega arith in rw e at c.loop-t.invariant.front
