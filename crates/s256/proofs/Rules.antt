@@ -1,6 +1,5 @@
 -- What the rule says, and what its answer says.
 use Prim.Native.Nat.{ℕ}
-use native.Mathlib.Omega.{arith}
 use mathlib.Core.Path.{◌≡◌, refl, sym, ap, ◌∙◌}
 use mathlib.Core.Logic.{◌↔◌}
 use mathlib.Core.Bool.{Bool, true, false, true≢false}
@@ -27,7 +26,7 @@ module _ (verifier challenge : List ℕ) where
     where
       from : (b : Bool) → match_if b ≡ Same → b ≡ true
       from true e = refl
-      from false e = let z : ◌≡◌ {A = ℕ} 0 1 = cc in absurd (omega arith)
+      from false e = cc
 
   pub matching_differs : matching verifier challenge ≡ Differs → matches verifier challenge ≡ false
   unfolding matching
@@ -35,7 +34,7 @@ module _ (verifier challenge : List ℕ) where
     where
       from : (b : Bool) → match_if b ≡ Differs → b ≡ false
       from false e = refl
-      from true e = let z : ◌≡◌ {A = ℕ} 0 1 = cc in absurd (omega arith)
+      from true e = cc
 
   -- the answer is Same exactly where the text is the challenge
   pub same_says : (matching verifier challenge ≡ Same) ↔ (base64url (sha256 verifier) ≡ challenge)

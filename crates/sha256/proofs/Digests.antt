@@ -24,7 +24,8 @@ digits_be w =
     cc
 
 -- the bytes of each word, put together
-pub joined_be : (ws : List ℕ) (bs : List (List ℕ)) → length bs ≡ length ws → ((i : ℕ) → i < length ws → get_or bs i [] ≡ to_be_bytes w32 (get_or ws i 0))
+pub joined_be : (ws : List ℕ) (bs : List (List ℕ)) → length bs ≡ length ws
+    → ((i : ℕ) → i < length ws → get_or bs i [] ≡ to_be_bytes w32 (get_or ws i 0))
     → flat_map (λ x. x) bs ≡ joined ws
 unfolding joined
 joined_be [] [] e h = refl

@@ -7,7 +7,7 @@ use std::array;
 pub fn million() -> [u8; 1000000]
     ensures { result ≡ replicate 1000000 97 }
 {
-    [97u8; 1000000]
+    [b'a'; 1000000]
 }
 
 fn pattern_at(i: usize) -> u8
