@@ -8,6 +8,7 @@ ghost use Rattle.s256.specs.Rule.{matching};
 
 pub mod base64url;
 
+// What the check answers: an enum and no bool, as document 01 wants of each check.
 #[derive(Clone, Copy)]
 pub enum Match {
     Same,
