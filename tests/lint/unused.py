@@ -13,7 +13,6 @@ Given; `NAME-spec` in a Proof.antt), what a page of docs/ or README cites or quo
 no root: it is written from the sources. Fields and variants are not looked at; where a page cites a field, it cites its record.
 A word stands for a name wherever it is no projection, so that a local variable can hide an unused name, and a finding is one.
 An import is unused where no text of its file has the name, a crate of crates.txt where no source of the other has it.
-A law that a function tells the check to use, `#[tactic(auto, using(..))]`, is a root too.
 """
 import argparse
 import contextlib
@@ -263,7 +262,7 @@ class Tree:
                 yield from ((path, m.group(1)) for line in block.split("\n") if (m := DECLARED.match(line) or SIGNATURE.match(line)))
 
     def told(self):
-        """The laws that a function tells the check to use, `#[tactic(auto, using(crate::proofs::Laws::law))]`."""
+        """The laws that a function tells the check to use, `#[tactic(auto, using(crate::proofs::Laws::law))]`: they are roots too."""
         for path, file in self.files.items():
             text = without(RATTLE_SKIP, (self.top / path).read_text(encoding="utf8")) if path.endswith(".rt") else ""
             for said in re.findall(r"#!?\[tactic\([^\]]*?using\(([^)]*)\)", text):
