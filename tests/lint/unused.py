@@ -271,6 +271,14 @@ class Tree:
             for path, block in BLOCK.findall(text):
                 yield from ((path, m.group(1)) for line in block.split("\n") if (m := DECLARED.match(line) or SIGNATURE.match(line)))
 
+    def told(self):
+        """The laws that a function tells the check to use, `#[tactic(auto, using(crate::proofs::Laws::law))]`: they are roots too."""
+        for path, file in self.files.items():
+            text = without(RATTLE_SKIP, (self.top / path).read_text(encoding="utf8")) if path.endswith(".rt") else ""
+            for said in re.findall(r"#!?\[tactic\([^\]]*?using\(([^)]*)\)", text):
+                for crate, module, name in re.findall(r"(\w+)::proofs::([\w:]+)::([^\s:,]+)", said):
+                    yield f"crates/{file.crate if crate == 'crate' else crate}/proofs/{module.replace('::', '/')}.antt", name
+
     def unused_crates(self):
         """Each crate with one that it lists and does not name."""
         for line in (self.top / "crates.txt").read_text(encoding="utf8").splitlines():
@@ -283,7 +291,7 @@ class Tree:
                     yield crate, name
 
     def live(self):
-        waiting = [(path, name) for path, file in self.files.items() for name in file.roots] + list(self.pages())
+        waiting = [(path, name) for path, file in self.files.items() for name in file.roots] + [*self.pages(), *self.told()]
         reached = set()
         while waiting:
             path, name = waiting.pop()
@@ -383,7 +391,7 @@ first = second
 second : ℕ
 second = first
 """,
-    "crates/a/proofs/More.antt": "pub needed : ℕ\nneeded = 1\n\npub kept : ℕ → ℕ\nkept n = n\n\npub spare : ℕ\nspare = 1\n",
+    "crates/a/proofs/More.antt": "pub needed : ℕ\nneeded = 1\n\npub kept : ℕ → ℕ\nkept n = n\n\npub spare : ℕ\nspare = 1\n\npub told : ℕ\ntold = 1\n\npub told_too : ℕ\ntold_too = 1\n",
     "crates/a/proofs/called/Answers.antt": """use Rattle.a.proofs.called.Goals as goal
 use Rattle.a.specs.Defs.{used}
 part : ℕ
@@ -428,6 +436,7 @@ impl T {
     pub fn uncalled(self) -> usize { T::LOOSE }
 }
 pub fn listed() -> usize { 1 }
+#[tactic(auto, using(crate::proofs::More::told, a::proofs::More::told_too), unfolding(crate::specs::Defs::said))]
 pub fn whole() -> usize { 1 }
 // fn said() {}
 #[unsafe(no_mangle)]
