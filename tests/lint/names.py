@@ -48,7 +48,7 @@ def read(path):
 def in_rattle(text, name):
     text = without(RATTLE_COMMENT, text)
     kind, _, word = name.rpartition("::")
-    blocks = re.finditer(rf"\b(impl|enum)\s+{kind or '[A-Za-z]+'}\s*\{{", text)
+    blocks = re.finditer(rf"\b(impl|enum)\s+(?:[^{{;]+ for )?{kind or '[A-Za-z]+'}\s*\{{", text)
     bodies = [(m.group(1), text[m.end():closing(text, m.end() - 1) - 1]) for m in blocks]
     if any(re.search(rf"^\s*{re.escape(word)}\b\s*(?:[({{,=]|$)", body, re.M) for block, body in bodies if block == "enum"):
         return True

@@ -6,8 +6,8 @@
   tests/lint/outcomes.py --self-test   spoil each function in turn (contract dropped, `requires` added, row dropped), add a function without
                                        a row, and let each definition that a contract reads through lose a field: each must be noticed
 
-A function is public where a caller of its crate can name it: `pub fn` in lib.rt or in a module that lib.rt makes public; and wherever it
-stands, where it is exported to C. Programs have none.
+A function is public where a caller of its crate can name it: `pub fn` in lib.rt or in a module that lib.rt makes public, and `from` of an
+`impl From` there, whose contract is from_gives; and wherever it stands, where it is exported to C. Programs have none.
 The forms, x being a buffer lent to be written:
   value   result ≡ ..                             slice   result.now ≡ ..
   bytes   x.new ≡ ..                              both    (result ≡ ..) × (x.new ≡ ..)
@@ -28,6 +28,8 @@ EXIT = re.compile(r"(?<![\w.])(\w+)\.new\b")
 ENTRY = re.compile(r"(?<![\w.])(?!result\b)\w+\.(?:old|now)\b")  # known before the call, on whichever side it stands
 RESULT = re.compile(r"(?<![\w.])result(?!\w)")
 FUNCTION = re.compile(r'\bpub (extern "C" )?fn (\w+)\s*\(')
+FROM = re.compile(r"\bimpl From<(?P<value>[^{]+)> for (?P<kind>\w+)\s*\{")
+GIVES = re.compile(r"ghost from_gives = (?P<open>\{) λ (?P<value>\w+) (?P<result>\w+)\. ")
 IMPORT = re.compile(r"\buse\s+Rattle\.(?!std\b)(\w+)\.specs\.([\w.]+)\.\{([^}]*)\}")
 
 spoilt = {}  # the self-test's files
@@ -52,6 +54,19 @@ def functions(text):
             at = stop
         name = "::".join([kind for kind, a, b in impls if a <= m.start() < b] + [m.group(2)])
         yield name, bool(m.group(1)), text[m.end():end - 1], returned.group(1) if returned else None, clauses, (begin, at)
+    yield from conversions(text)
+
+
+def conversions(text):
+    """Each `impl From`, as the function that it is: what from_gives says of the value and the result is its contract."""
+    for m in FROM.finditer(text):
+        end = closing(text, m.end() - 1)
+        gives = GIVES.search(text, m.end(), end)
+        begin = gives.start() if gives else m.end()
+        stop = closing(text, gives.start("open")) if gives else begin
+        said = [re.sub(rf"(?<![\w.]){gives['result']}(?!\w)", "result", text[gives.end():stop - 1])] if gives else []
+        asked = re.findall(r"\brequires\b", text[m.end():end])
+        yield f"{m['kind']}::from", False, f"{gives['value']}: {m['value']}" if gives else "", m["kind"], {"requires": asked, "ensures": said}, (begin, stop)
 
 
 def crates():

@@ -10,7 +10,7 @@ Names are the definitions, laws, records, data types and rulesets of specs/ and 
 of src/. A name is reached from a root, or from a name that is reached and has it in its text; its own text does not count, nor does an
 import. Roots are `main`, exported functions, the answers and invariants of functions (of a type `goal.NAME`, goal being a function's Goals or
 Given; `NAME-spec` in a Proof.antt), what a page of docs/ or README cites or quotes, and a function that takes nothing and answers a constant, whose contract ties it to its definition. The table of docs/OUTCOMES.md is
-no root: it is written from the sources. Fields and variants are not looked at; where a page cites a field, it cites its record.
+no root: it is written from the sources. An impl of a trait is text of its type. Fields and variants are not looked at; where a page cites a field, it cites its record.
 A word stands for a name wherever it is no projection, so that a local variable can hide an unused name, and a finding is one.
 An import is unused where no text of its file has the name, a crate of crates.txt where no source of the other has it.
 """
@@ -34,7 +34,7 @@ CLAUSE = r"(?:requires|ensures|measure|invariant)\*?(?:\s+\w+)?\s*"
 RUST_NAME = re.compile(r"\b(?:fn|struct|enum|const)\s+(\w+)")
 # a function that takes nothing and answers a constant is there for its contract: it ties the constant to its definition
 TIE = re.compile(r"^fn \w+\(\) -> \w+\s+ensures(?:\s+\w+)?\s*\{[^{}]*\}\s*\{\s*\w+::[A-Z_]+\s*\}$")
-IMPL = re.compile(r"^impl\b(?:<[^>]*>)?\s+(\w+)[^{]*\{", re.M)
+IMPL = re.compile(r"^impl\b(?:<[^>]*>)?\s+(?:([^{]+?)\s+for\s+)?(\w+)[^{]*\{", re.M)  # the trait, and the type
 
 
 def words(text):
@@ -127,18 +127,25 @@ class File:
                 name, _, local = item.partition(" as ")
                 self.imports[local.strip() or name] = self.tree.rust_target(self, m.group(1).split("::")[:-1], name)
         text = without(RUST_USE, text)
-        impls = [(m.group(1), m.end() - 1, closing(text, m.end() - 1)) for m in IMPL.finditer(text)]
+        impls = [(*m.groups(), m.end() - 1, closing(text, m.end() - 1)) for m in IMPL.finditer(text)]
         for m in RUST_NAME.finditer(text):
-            kind = "".join(f"{name}::" for name, a, b in impls if a <= m.start() < b)
+            if any(trait and a <= m.start() < b for trait, _, a, b in impls):
+                continue
+            kind = "".join(f"{name}::" for _, name, a, b in impls if a <= m.start() < b)
             self.names[kind + m.group(1)] = text[m.start():self.item_end(text, m.end())]
             line = text[text.rfind("\n", 0, m.start()) + 1:m.start()]
             if m.group(1) == "main" or "extern" in line or TIE.search(self.names[kind + m.group(1)]):
                 self.roots.add(kind + m.group(1))
+        # what a type is by a trait is part of the type: of the one that is declared here
+        for trait, name, a, b in impls:
+            declared = [word for word in [name, *re.findall(r"\w+", trait or "")] if trait and word in self.names]
+            if declared:
+                self.names[declared[0]] += text[a:b]
 
     def take_ghosts(self, text):
-        ghosts = "\n".join(m.group() for m in re.finditer(r"^ghost use [^;]*;", text, re.M))
+        ghosts = "\n".join(m.group(1) for m in re.finditer(r"^ *(ghost use [^;]*;)", text, re.M))
         self.take_uses(ghosts)
-        return re.sub(r"^ghost use [^;]*;", "", text, flags=re.M)
+        return re.sub(r"^ *ghost use [^;]*;", "", text, flags=re.M)
 
     @staticmethod
     def item_end(text, at):
@@ -428,7 +435,25 @@ pub extern "C" fn out(t: T) -> usize
 }
 """,
     "crates/a/src/m.rt": "pub fn g() -> usize { m_only() }\nfn m_only() -> usize { 1 }\npub fn idle() -> usize { 1 }\n",
-    "crates/a/src/n.rt": "pub struct Far {}\nimpl Far {\n    pub const AT: usize = 1;\n    pub const OFF: usize = 1;\n}\npub fn far() -> usize { 1 }\n",
+    "crates/a/src/n.rt": """ghost use Rattle.a.specs.Defs.{used};
+ghost use Rattle.a.proofs.More.{needed};
+pub struct Far {}
+impl Far {
+    pub const AT: usize = 1;
+    pub const OFF: usize = 1;
+}
+impl From<u8> for Far {
+    ghost from_gives = { λ n far. used n ≡ far };
+    fn from(n: u8) -> Far { near(n) }
+}
+fn near(n: u8) -> Far { Far {} }
+pub struct Off {}
+impl From<u8> for Off {
+    fn from(n: u8) -> Off { off(n) }
+}
+fn off(n: u8) -> Off { Off {} }
+pub fn far() -> usize { 1 }
+""",
     "crates/b/src/main.rt": "use a::m;\nfn main() { let x = m::g(); let y = a::n::far() + a::n::Far::AT + a::whole(); }\nfn beside() {}\n",
 }
 FOUND = [
@@ -441,7 +466,8 @@ FOUND = [
     ("crates/a/proofs/called/Invariants.antt", "reaches nowhere"),
     *(("crates/a/src/lib.rt", f"reaches {name}") for name in ("Lone", "T::LOOSE", "T::uncalled", "listed")),
     ("crates/a/src/m.rt", "reaches idle"),
-    ("crates/a/src/n.rt", "reaches Far::OFF"),
+    *(("crates/a/src/n.rt", f"reaches {name}") for name in ("Far::OFF", "Off", "off")),
+    ("crates/a/src/n.rt", "imports needed"),
     ("crates/b/src/main.rt", "reaches beside"),
     ("crates/a/specs/Defs.antt", "imports T"),
     ("crates/a/proofs/Laws.antt", "imports own"),

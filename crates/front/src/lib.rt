@@ -44,9 +44,10 @@ pub fn perdigolh_push(
 ) -> Answer
     ensures { left (as_answer result) ledger.new ≡ push ledger.old time table.now (record { client = client.now; key = key.now; scope = scope; challenge = challenge.now; redirect = redirect.now; fresh = fresh.now }) }
 {
-    Answer::of(push::push(
+    push::push(
         ledger, time, table, client, key, scope, challenge, redirect, fresh,
-    ))
+    )
+    .into()
 }
 
 pub fn perdigolh_decide(
@@ -62,9 +63,10 @@ pub fn perdigolh_decide(
     ensures { left_with (as_decided result) ledger.new output.new ≡ decide ledger.old time (record { reference = reference.now; client = client.now; yes = consents yes; holder = holder; fresh = fresh.now }) output.old }
 {
     let choice = Choice::consents(yes);
-    Decided::of(decide::decide(
+    decide::decide(
         ledger, time, reference, client, choice, holder, fresh, output,
-    ))
+    )
+    .into()
 }
 
 pub fn perdigolh_token(
@@ -80,9 +82,10 @@ pub fn perdigolh_token(
 ) -> Answer
     ensures { left (as_answer result) ledger.new ≡ token ledger.old time table.now (record { client = client.now; key = key.now; presented = presented.now; code = code.now; verifier = verifier.now; fresh = fresh.now }) }
 {
-    Answer::of(token::token(
+    token::token(
         ledger, time, table, client, key, presented, code, verifier, fresh,
-    ))
+    )
+    .into()
 }
 
 pub fn perdigolh_resource(
@@ -95,13 +98,13 @@ pub fn perdigolh_resource(
 ) -> Answer
     ensures { left (as_answer result) ledger.new ≡ resource ledger.old time (record { token = token.now; presented = presented.now; scope = scope; holder = holder }) }
 {
-    Answer::of(resource::resource(ledger, time, token, presented, scope, holder))
+    resource::resource(ledger, time, token, presented, scope, holder).into()
 }
 
 pub fn perdigolh_sweep(ledger: &mut [u8], time: u64) -> Swept
     ensures { left (as_swept result) ledger.new ≡ sweep ledger.old time }
 {
-    Swept::of(sweep::sweep(ledger, time))
+    sweep::sweep(ledger, time).into()
 }
 
 // The request that waits, in the struct of decide's answer. The ledger is lent to be read only.
@@ -114,7 +117,7 @@ pub fn perdigolh_pending(
 ) -> Decided
     ensures { left_with (as_decided result) ledger.now output.new ≡ pending ledger.now time (record { reference = reference.now; client = client.now }) output.old }
 {
-    Decided::of(pending::pending(ledger, time, reference, client, output))
+    pending::pending(ledger, time, reference, client, output).into()
 }
 
 pub fn perdigolh_introspect(
@@ -125,7 +128,7 @@ pub fn perdigolh_introspect(
 ) -> Introspected
     ensures { left_with (as_introspected result) ledger.now output.new ≡ introspect ledger.now time token.now output.old }
 {
-    Introspected::of(introspect::introspect(ledger, time, token, output))
+    introspect::introspect(ledger, time, token, output).into()
 }
 
 pub fn perdigolh_version() -> u32
