@@ -34,6 +34,7 @@ CLAUSE = r"(?:requires|ensures|measure|invariant)\*?(?:\s+\w+)?\s*"
 RUST_NAME = re.compile(r"\b(?:fn|struct|enum|const)\s+(\w+)")
 # a function that takes nothing and answers a constant is there for its contract: it ties the constant to its definition
 TIE = re.compile(r"^fn \w+\(\) -> \w+\s+ensures(?:\s+\w+)?\s*\{[^{}]*\}\s*\{\s*\w+::[A-Z_]+\s*\}$")
+METHODS = {"Read": {"chain", "read_exact"}}  # a trait of std is imported for its methods
 IMPL = re.compile(r"^impl\b(?:<[^>]*>)?\s+(?:([^{]+?)\s+for\s+)?(\w+)[^{]*\{", re.M)  # the trait, and the type
 
 
@@ -191,7 +192,7 @@ class File:
         text = "\n".join(self.names.values())
         plain, behind = words(text)
         rust = set(re.findall(r"\w+", text)) if self.path.endswith(".rt") else set()
-        unused = [local for local in self.imports if not has(plain, local) and local not in rust]
+        unused = [local for local in self.imports if not has(plain, local) and not rust & {local, *METHODS.get(local, [])}]
         return unused + [alias for alias in self.aliases if alias not in {before for before, _ in behind}]
 
 
@@ -454,7 +455,7 @@ impl From<u8> for Off {
 fn off(n: u8) -> Off { Off {} }
 pub fn far() -> usize { 1 }
 """,
-    "crates/b/src/main.rt": "use a::m;\nfn main() { let x = m::g(); let y = a::n::far() + a::n::Far::AT + a::whole(); }\nfn beside() {}\n",
+    "crates/b/src/main.rt": "use a::m;\nuse std::io::{Read, Write};\nfn main() { r().read_exact(b); let x = m::g(); let y = a::n::far() + a::n::Far::AT + a::whole(); }\nfn beside() {}\n",
 }
 FOUND = [
     ("crates/a/specs/Cited.antt", "reaches landed"),
@@ -469,6 +470,7 @@ FOUND = [
     *(("crates/a/src/n.rt", f"reaches {name}") for name in ("Far::OFF", "Off", "off")),
     ("crates/a/src/n.rt", "imports needed"),
     ("crates/b/src/main.rt", "reaches beside"),
+    ("crates/b/src/main.rt", "imports Write"),
     ("crates/a/specs/Defs.antt", "imports T"),
     ("crates/a/proofs/Laws.antt", "imports own"),
     ("crates/a/proofs/Laws.antt", "imports fewer"),
