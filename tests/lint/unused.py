@@ -10,7 +10,7 @@ Names are the definitions, laws, records, data types and rulesets of specs/ and 
 constants of src/; a trait's function and those of its impls are one name. A name is reached from a root, or from a name that is reached and has it in its text; its own text does not count, nor does an
 import. Roots are `main`, exported functions, the answers and invariants of functions (of a type `goal.NAME`, goal being a function's Goals or
 Given; `NAME-spec` in a Proof.antt), what a page of docs/ or README cites or quotes, and a function that takes nothing and answers a constant, whose contract ties it to its definition. The table of docs/OUTCOMES.md is
-no root: it is written from the sources. Fields and variants are not looked at; where a page cites a field, it cites its record.
+no root: it is written from the sources. An impl of a trait is text of its type. Fields and variants are not looked at; where a page cites a field, it cites its record.
 A word stands for a name wherever it is no projection, so that a local variable can hide an unused name, and a finding is one.
 An import is unused where no text of its file has the name, nor a function of a trait that is imported; a crate of crates.txt where no source of the other has it.
 """
@@ -128,7 +128,7 @@ class File:
                 name, _, local = item.partition(" as ")
                 self.imports[local.strip() or name] = self.tree.rust_target(self, m.group(1).split("::")[:-1], name)
         text = without(RUST_USE, text)
-        impls = [(m.group(1), m.end() - 1, closing(text, m.end() - 1)) for m in IMPL.finditer(text)]
+        impls = [(*m.groups(), m.end() - 1, closing(text, m.end() - 1)) for m in IMPL.finditer(text)]
         for m in RUST_NAME.finditer(text):
             kind = "".join(f"{name}::" for name, a, b in impls if a <= m.start() < b)
             name, own = kind + m.group(1), text[m.start():self.item_end(text, m.end())]
@@ -136,11 +136,16 @@ class File:
             line = text[text.rfind("\n", 0, m.start()) + 1:m.start()]
             if m.group(1) == "main" or "extern" in line or TIE.search(own):
                 self.roots.add(kind + m.group(1))
+        # what a type is by a trait is part of the type: of the one that is declared here
+        for trait, name, a, b in impls:
+            declared = [word for word in [name, *re.findall(r"\w+", trait or "")] if trait and word in self.names]
+            if declared:
+                self.names[declared[0]] += text[a:b]
 
     def take_ghosts(self, text):
-        ghosts = "\n".join(m.group() for m in re.finditer(r"^ghost use [^;]*;", text, re.M))
+        ghosts = "\n".join(m.group(1) for m in re.finditer(r"^ *(ghost use [^;]*;)", text, re.M))
         self.take_uses(ghosts)
-        return re.sub(r"^ghost use [^;]*;", "", text, flags=re.M)
+        return re.sub(r"^ *ghost use [^;]*;", "", text, flags=re.M)
 
     @staticmethod
     def item_end(text, at):
@@ -466,6 +471,7 @@ FOUND = [
     ("crates/a/src/n.rt", "reaches Far::OFF"),
     ("crates/a/src/n.rt", "reaches Wide::spare"),
     ("crates/b/src/main.rt", "reaches beside"),
+    ("crates/b/src/main.rt", "imports Write"),
     ("crates/a/specs/Defs.antt", "imports T"),
     ("crates/a/proofs/Laws.antt", "imports own"),
     ("crates/a/proofs/Laws.antt", "imports fewer"),

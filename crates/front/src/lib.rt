@@ -53,7 +53,7 @@ pub fn perdigolh_push(
         redirect,
         fresh,
     };
-    Answer::of(push::push(ledger, time, table, request))
+    push::push(ledger, time, table, request).into()
 }
 
 pub fn perdigolh_decide(
@@ -75,7 +75,7 @@ pub fn perdigolh_decide(
         holder,
         fresh,
     };
-    Decided::of(decide::decide(ledger, time, request, output))
+    decide::decide(ledger, time, request, output).into()
 }
 
 pub fn perdigolh_token(
@@ -99,7 +99,7 @@ pub fn perdigolh_token(
         verifier,
         fresh,
     };
-    Answer::of(token::token(ledger, time, table, request))
+    token::token(ledger, time, table, request).into()
 }
 
 pub fn perdigolh_resource(
@@ -118,13 +118,13 @@ pub fn perdigolh_resource(
         scope,
         holder,
     };
-    Answer::of(resource::resource(ledger, time, request))
+    resource::resource(ledger, time, request).into()
 }
 
 pub fn perdigolh_sweep(ledger: &mut [u8], time: u64) -> Swept
     ensures { left (as_swept result) ledger.new ≡ sweep ledger.old time }
 {
-    Swept::of(sweep::sweep(ledger, time))
+    sweep::sweep(ledger, time).into()
 }
 
 // The request that waits, in the struct of decide's answer. The ledger is lent to be read only.
@@ -137,7 +137,7 @@ pub fn perdigolh_pending(
 ) -> Decided
     ensures { left_with (as_decided result) ledger.now output.new ≡ pending ledger.now time (record { reference = reference.now; client = client.now }) output.old }
 {
-    Decided::of(pending::pending(ledger, time, reference, client, output))
+    pending::pending(ledger, time, reference, client, output).into()
 }
 
 pub fn perdigolh_introspect(
@@ -148,7 +148,7 @@ pub fn perdigolh_introspect(
 ) -> Introspected
     ensures { left_with (as_introspected result) ledger.now output.new ≡ introspect ledger.now time token.now output.old }
 {
-    Introspected::of(introspect::introspect(ledger, time, token, output))
+    introspect::introspect(ledger, time, token, output).into()
 }
 
 pub fn perdigolh_version() -> u32

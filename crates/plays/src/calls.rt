@@ -1,7 +1,6 @@
 // One call a line, by the words of the line. Ids, keys and values are one letter repeated; scopes and holders are a digit.
-use super::words::{begins, letters, number, rest, word};
+use super::words::{letters, number, rest, word};
 use super::{say, table};
-use octets::part::{cut, same};
 use std::io;
 
 fn start(rt: &impl Print, line: &[u8], l: &mut [u8]) -> io::Result<()> {
@@ -9,75 +8,71 @@ fn start(rt: &impl Print, line: &[u8], l: &mut [u8]) -> io::Result<()> {
     say::number(rt, line, n, l)
 }
 
-// how many clients the table has, client, key, scope, fresh value; challenge, redirect
-fn push(rt: &impl Print, line: &[u8], l: &mut [u8], time: u64, w: [u8; 6]) -> io::Result<()> {
-    let t = table::five();
+fn push(rt: &impl Print, line: &[u8], l: &mut [u8], time: u64) -> io::Result<()> {
+    let [clients, client, key, scope, fresh, _] = letters(line);
+    let (challenge, redirect) = (word(line, 7), rest(line, 8));
     let a = push::push(
         l,
         time,
-        cut(&t, 0, (w[0] as usize) << 6),
-        &[w[1]; 16],
-        &[w[2]; 32],
-        w[3] as u32,
-        word(line, 7),
-        rest(line, 8),
-        &[w[4]; 32],
+        table::first(&table::five(), clients),
+        &[client; 16],
+        &[key; 32],
+        u32::from(scope),
+        challenge,
+        redirect,
+        &[fresh; 32],
     );
     say::answer(rt, line, a, l)
-}
-
-// reference, client, yes or no, holder, fresh value
-fn decide_into(
-    rt: &impl Print,
-    line: &[u8],
-    l: &mut [u8],
-    time: u64,
-    w: [u8; 6],
-    out: &mut [u8],
-) -> io::Result<()> {
-    let d = decide::decide(
-        l,
-        time,
-        &[w[0]; 32],
-        &[w[1]; 16],
-        w[2] == b'y',
-        w[3] as u64,
-        &[w[4]; 32],
-        out,
-    );
-    say::decided(rt, line, d, out, l)
 }
 
 // With room for 64 bytes and two more, or where the line ends in the word short for one byte less than 64.
-fn decide(rt: &impl Print, line: &[u8], l: &mut [u8], time: u64, w: [u8; 6]) -> io::Result<()> {
-    if same(word(line, 7), b"short") {
-        let mut short = [b'.'; 63];
-        return decide_into(rt, line, l, time, w, &mut short);
-    }
+fn decide(rt: &impl Print, line: &[u8], l: &mut [u8], time: u64) -> io::Result<()> {
+    let [reference, client, yes, holder, fresh, _] = letters(line);
     let mut out = [b'.'; 66];
-    decide_into(rt, line, l, time, w, &mut out)
+    let room = match word(line, 7) {
+        b"short" => 63,
+        _ => 66,
+    };
+    let d = decide::decide(
+        l,
+        time,
+        &[reference; 32],
+        &[client; 16],
+        yes == b'y',
+        u64::from(holder),
+        &[fresh; 32],
+        &mut out[..room],
+    );
+    say::decided(rt, line, d, &out[..room], l)
 }
 
-// how many clients the table has, client, key, presented key, code, fresh value; verifier
-fn token(rt: &impl Print, line: &[u8], l: &mut [u8], time: u64, w: [u8; 6]) -> io::Result<()> {
-    let t = table::five();
+fn token(rt: &impl Print, line: &[u8], l: &mut [u8], time: u64) -> io::Result<()> {
+    let [clients, client, key, presented, code, fresh] = letters(line);
+    let verifier = rest(line, 8);
     let a = token::token(
         l,
         time,
-        cut(&t, 0, (w[0] as usize) << 6),
-        &[w[1]; 16],
-        &[w[2]; 32],
-        &[w[3]; 32],
-        &[w[4]; 32],
-        rest(line, 8),
-        &[w[5]; 32],
+        table::first(&table::five(), clients),
+        &[client; 16],
+        &[key; 32],
+        &[presented; 32],
+        &[code; 32],
+        verifier,
+        &[fresh; 32],
     );
     say::answer(rt, line, a, l)
 }
 
-// token, presented key, scope, holder
-fn resource(rt: &impl Print, line: &[u8], l: &mut [u8], time: u64, w: [u8; 6]) -> io::Result<()> {
-    let a = resource::resource(l, time, &[w[0]; 32], &[w[1]; 32], w[2] as u32, w[3] as u64);
+fn resource(rt: &impl Print, line: &[u8], l: &mut [u8], time: u64) -> io::Result<()> {
+    let [token, presented, scope, holder, _, _] = letters(line);
+    let a = resource::resource(
+        l,
+        time,
+        &[token; 32],
+        &[presented; 32],
+        u32::from(scope),
+        u64::from(holder),
+    );
     say::answer(rt, line, a, l)
 }
 
@@ -95,51 +90,42 @@ enum Call {
     Resource,
     Sweep,
     Next,
-    Remark,
 }
 
-// A line is named by its call.
-fn named(line: &[u8]) -> Call {
-    if begins(line, b"start") {
-        return Call::Start;
-    }
-    if begins(line, b"push") {
-        return Call::Push;
-    }
-    if begins(line, b"decide") {
-        return Call::Decide;
-    }
-    if begins(line, b"token") {
-        return Call::Token;
-    }
-    if begins(line, b"resource") {
-        return Call::Resource;
-    }
-    if begins(line, b"sweep") {
-        return Call::Sweep;
-    }
-    if begins(line, b"next") {
-        return Call::Next;
-    }
-    Call::Remark
+const NAMES: [(&[u8], Call); 7] = [
+    (b"start", Call::Start),
+    (b"push", Call::Push),
+    (b"decide", Call::Decide),
+    (b"token", Call::Token),
+    (b"resource", Call::Resource),
+    (b"sweep", Call::Sweep),
+    (b"next", Call::Next),
+];
+
+// A line begins with the name of its call, or is a remark.
+fn named(line: &[u8]) -> Option<Call> {
+    NAMES
+        .iter()
+        .find(|(name, _)| line.starts_with(name))
+        .map(|(_, call)| *call)
 }
 
 // Behind the name a line has the time, and then what the call asks. `next` with a number sets the ledger's next number.
 pub fn play(rt: &impl Print, line: &[u8], l: &mut [u8]) -> io::Result<()> {
+    let Some(call) = named(line) else {
+        return Ok(());
+    };
     let n = number(line, 1);
-    let w = letters(line);
-    let call = named(line);
     match call {
         Call::Start => start(rt, line, l),
-        Call::Push => push(rt, line, l, n, w),
-        Call::Decide => decide(rt, line, l, n, w),
-        Call::Token => token(rt, line, l, n, w),
-        Call::Resource => resource(rt, line, l, n, w),
+        Call::Push => push(rt, line, l, n),
+        Call::Decide => decide(rt, line, l, n),
+        Call::Token => token(rt, line, l, n),
+        Call::Resource => resource(rt, line, l, n),
         Call::Sweep => sweep(rt, line, l, n),
         Call::Next => {
             ledger::clock::set_next(l, n);
             Ok(())
         }
-        Call::Remark => Ok(()),
     }
 }
