@@ -7,11 +7,12 @@ mod say;
 mod table;
 mod words;
 
+use ledger::clock::set_next;
 use std::io;
 use std::io::Read;
 
-// What a line does: `ledger` with a length and a letter fills a ledger anew at the front of space, and any other line is played on the one of n bytes
-// that is there. Answers the length of the ledger afterwards.
+// What a line does: `ledger` with a length and a letter fills a ledger anew at the front of space, `next` with a number sets the next number of the one of
+// n bytes that is there, and any other line is played on it. Answers the length of the ledger afterwards.
 fn turn(rt: &impl Print, line: &[u8], space: &mut [u8], n: usize) -> io::Result<usize> {
     if line.starts_with(b"ledger") {
         let length = words::number(line, 1) as usize;
@@ -21,7 +22,11 @@ fn turn(rt: &impl Print, line: &[u8], space: &mut [u8], n: usize) -> io::Result<
         return Ok(length);
     }
     if let Some(ledger) = space.get_mut(..n) {
-        calls::play(rt, line, ledger)?;
+        if line.starts_with(b"next") {
+            set_next(ledger, words::number(line, 1));
+        } else {
+            calls::play(rt, line, ledger)?;
+        }
     }
     Ok(n)
 }

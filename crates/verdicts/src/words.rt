@@ -5,7 +5,7 @@ pub fn words(line: &[u8]) -> [&[u8]; 7] {
     [0, 1, 2, 3, 4, 5, 6].map(|n| line.split(|b| *b == b' ').nth(n).unwrap_or(&[]))
 }
 
-// A word in decimal.
+// A word in decimal. A byte that is no digit counts here for its low four bits and in plays for itself, on every script: so each has its own.
 pub fn number(word: &[u8]) -> usize {
     word.iter().fold(
         0,
