@@ -6,22 +6,17 @@ use super::field::Field;
 
 #[derive(Clone, Copy)]
 pub enum State {
-    Free,
-    Pushed,
-    Consented,
-    Redeemed,
+    Free = 0,
+    Pushed = 1,
+    Consented = 2,
+    Redeemed = 3,
 }
 
 impl From<State> for u8 {
-    ghost from_gives = { λ s n. n ≡ state_number s };
+    ghost from_gives = { λ s number. number ≡ state_number s };
 
     fn from(s: State) -> u8 {
-        match s {
-            State::Free => 0,
-            State::Pushed => 1,
-            State::Consented => 2,
-            State::Redeemed => 3,
-        }
+        s as u8
     }
 }
 

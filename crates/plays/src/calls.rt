@@ -2,64 +2,56 @@
 use super::words::{letters, number, rest, word};
 use super::{say, table};
 use desk::answer::{Answer, Decided};
+use desk::request::{DecideRequest, PushRequest, ResourceRequest, TokenRequest};
 use std::io;
 
 fn push(line: &[u8], l: &mut [u8], time: u64) -> Answer {
     let [clients, client, key, scope, fresh, _] = letters(line);
-    let (challenge, redirect) = (word(line, 7), rest(line, 8));
-    push::push(
-        l,
-        time,
-        table::first(&table::five(), clients),
-        &[client; 16],
-        &[key; 32],
-        u32::from(scope),
-        challenge,
-        redirect,
-        &[fresh; 32],
-    )
+    let request = PushRequest {
+        client: &[client; 16],
+        key: &[key; 32],
+        scope: u32::from(scope),
+        challenge: word(line, 7),
+        redirect: rest(line, 8),
+        fresh: &[fresh; 32],
+    };
+    push::push(l, time, table::first(&table::five(), clients), request)
 }
 
 fn decide(line: &[u8], l: &mut [u8], time: u64, out: &mut [u8]) -> Decided {
     let [reference, client, yes, holder, fresh, _] = letters(line);
-    decide::decide(
-        l,
-        time,
-        &[reference; 32],
-        &[client; 16],
-        yes == b'y',
-        u64::from(holder),
-        &[fresh; 32],
-        out,
-    )
+    let request = DecideRequest {
+        reference: &[reference; 32],
+        client: &[client; 16],
+        yes: yes == b'y',
+        holder: u64::from(holder),
+        fresh: &[fresh; 32],
+    };
+    decide::decide(l, time, request, out)
 }
 
 fn token(line: &[u8], l: &mut [u8], time: u64) -> Answer {
     let [clients, client, key, presented, code, fresh] = letters(line);
-    let verifier = rest(line, 8);
-    token::token(
-        l,
-        time,
-        table::first(&table::five(), clients),
-        &[client; 16],
-        &[key; 32],
-        &[presented; 32],
-        &[code; 32],
-        verifier,
-        &[fresh; 32],
-    )
+    let request = TokenRequest {
+        client: &[client; 16],
+        key: &[key; 32],
+        presented: &[presented; 32],
+        code: &[code; 32],
+        verifier: rest(line, 8),
+        fresh: &[fresh; 32],
+    };
+    token::token(l, time, table::first(&table::five(), clients), request)
 }
 
 fn resource(line: &[u8], l: &mut [u8], time: u64) -> Answer {
     let [token, presented, scope, holder, _, _] = letters(line);
-    resource::resource(
-        l,
-        time,
-        &[token; 32],
-        &[presented; 32],
-        u32::from(scope),
-        u64::from(holder),
-    )
+    let request = ResourceRequest {
+        token: &[token; 32],
+        presented: &[presented; 32],
+        scope: u32::from(scope),
+        holder: u64::from(holder),
+    };
+    resource::resource(l, time, request)
 }
 
 #[derive(Clone, Copy)]
