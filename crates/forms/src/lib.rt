@@ -4,7 +4,7 @@
 
 ghost use Rattle.std.specs.Prelude.{◌≡◌};
 ghost use Rattle.forms.specs.Limits.{redirect_least, redirect_most, challenge_length, verifier_least, verifier_most};
-ghost use Rattle.forms.specs.Forms.{redirect_form, challenge_form, verifier_form};
+ghost use Rattle.forms.specs.Forms.{form_if, redirect_form, challenge_form, verifier_form};
 
 mod class;
 
@@ -12,6 +12,14 @@ mod class;
 pub enum Form {
     Well,
     Ill,
+}
+
+impl Form {
+    fn of(well: bool) -> Form
+        ensures { result ≡ form_if well }
+    {
+        if well { Form::Well } else { Form::Ill }
+    }
 }
 
 #[derive(Clone, Copy)]
@@ -38,20 +46,8 @@ impl Redirect {
     pub fn check(s: &[u8]) -> Form
         ensures { result ≡ redirect_form s.now }
     {
-        if s.len() < Redirect::LEAST {
-            return Form::Ill;
-        }
-        if s.len() > Redirect::MOST {
-            return Form::Ill;
-        }
-        let prefix = b"https://";
-        if !octets::part::same(&s[0..prefix.len()], prefix) {
-            return Form::Ill;
-        }
-        if !class::all_visible(s) {
-            return Form::Ill;
-        }
-        Form::Well
+        let sized = (Redirect::LEAST..=Redirect::MOST).contains(&s.len());
+        Form::of(sized && s.starts_with(b"https://") && class::all(s, class::visible))
     }
 }
 
@@ -70,13 +66,7 @@ impl Challenge {
     pub fn check(s: &[u8]) -> Form
         ensures { result ≡ challenge_form s.now }
     {
-        if s.len() != Challenge::LENGTH {
-            return Form::Ill;
-        }
-        if !class::all_url_safe(s) {
-            return Form::Ill;
-        }
-        Form::Well
+        Form::of(s.len() == Challenge::LENGTH && class::all(s, class::url_safe))
     }
 }
 
@@ -103,15 +93,7 @@ impl Verifier {
     pub fn check(s: &[u8]) -> Form
         ensures { result ≡ verifier_form s.now }
     {
-        if s.len() < Verifier::LEAST {
-            return Form::Ill;
-        }
-        if s.len() > Verifier::MOST {
-            return Form::Ill;
-        }
-        if !class::all_unreserved(s) {
-            return Form::Ill;
-        }
-        Form::Well
+        let sized = (Verifier::LEAST..=Verifier::MOST).contains(&s.len());
+        Form::of(sized && class::all(s, class::unreserved))
     }
 }

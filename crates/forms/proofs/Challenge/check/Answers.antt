@@ -1,15 +1,15 @@
-use Rattle.std.proofs.Common.{eq-eqb, ne_eqb, sym, ◌∙◌}
-use Rattle.forms.specs.Forms.{challenge_form, challenge_formed}
+use Rattle.std.proofs.Common.{rules, ◌≡◌, ap, ◌∙◌, ◌&&◌, length, eqb, eq-eqb, ne_eqb}
+use Rattle.forms.specs.Forms.{form_if, challenge_form, challenge_formed, url_safe}
+use Rattle.octets.specs.Lists.{every}
 use Rattle.forms.proofs.Challenge.check.Goals as goal
-
-pub returns-then-s-ne-LENGTH : goal.returns-then-s-ne-LENGTH
-unfolding challenge_form challenge_formed
-returns-then-s-ne-LENGTH c = simp (ne_eqb _ _ c.if-s-ne-LENGTH.true)
-
-pub returns-then-not-all_url_safe : goal.returns-then-not-all_url_safe
-unfolding challenge_form challenge_formed
-returns-then-not-all_url_safe c = simp (eq-eqb _ _ c.if-s-ne-LENGTH.false, sym c.all_url_safe.ensures ∙ c.if-not-all_url_safe.true)
+use Rattle.forms.proofs.Challenge.check.Goals.{then-s-eq-LENGTH, else-s-eq-LENGTH}
 
 pub returns : goal.returns
 unfolding challenge_form challenge_formed
-returns c = simp (eq-eqb _ _ c.if-s-ne-LENGTH.false, sym c.all_url_safe.ensures ∙ c.if-not-all_url_safe.false)
+returns c =
+    let s = c.args.s.now in
+    let both : c.if-s-eq-LENGTH.of ≡ (eqb (length s) 43 && every url_safe s) = elim c.if-s-eq-LENGTH.branch [
+      | then-s-eq-LENGTH w ↦ w.of-is ∙ rw (eq-eqb _ _ w.if-s-eq-LENGTH.true) (w.all.ensures url_safe (search rules))
+      | else-s-eq-LENGTH w ↦ w.of-is ∙ rw (ne_eqb _ _ w.if-s-eq-LENGTH.false)
+    ] in
+    c.of.ensures ∙ ap form_if both

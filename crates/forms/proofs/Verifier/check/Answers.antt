@@ -1,21 +1,18 @@
-use Rattle.std.proofs.Common.{le-leb, sym, ◌∙◌}
-use Rattle.forms.specs.Forms.{verifier_form, verifier_formed}
-use borrow.Author.Tests.{lt-leb}
-use mathlib.Core.Bool.{and-false}
+use Rattle.std.proofs.Common.{rules, ◌≡◌, ap, sym, ◌∙◌, ◌&&◌, length}
+use Rattle.forms.specs.Forms.{form_if, verifier_form, verifier_formed, unreserved, between}
+use Rattle.octets.specs.Lists.{every}
+use Rattle.forms.proofs.Passing.{contains_between}
 use Rattle.forms.proofs.Verifier.check.Goals as goal
-
-pub returns-then-s-lt-LEAST : goal.returns-then-s-lt-LEAST
-unfolding verifier_form verifier_formed
-returns-then-s-lt-LEAST c = simp (lt-leb _ _ c.if-s-lt-LEAST.true)
-
-pub returns-then-s-gt-MOST : goal.returns-then-s-gt-MOST
-unfolding verifier_form verifier_formed
-returns-then-s-gt-MOST c = simp (lt-leb _ _ c.if-s-gt-MOST.true, and-false)
-
-pub returns-then-not-all_unreserved : goal.returns-then-not-all_unreserved
-unfolding verifier_form verifier_formed
-returns-then-not-all_unreserved c = simp (sym c.all_unreserved.ensures ∙ c.if-not-all_unreserved.true, and-false)
+use Rattle.forms.proofs.Verifier.check.Goals.{then-sized, else-sized}
 
 pub returns : goal.returns
 unfolding verifier_form verifier_formed
-returns c = simp (le-leb _ _ c.if-s-lt-LEAST.false, le-leb _ _ c.if-s-gt-MOST.false, sym c.all_unreserved.ensures ∙ c.if-not-all_unreserved.false)
+returns c =
+    let s = c.args.s.now in
+    let n = c.new.ensures in
+    let sized = c.contains-sized.ensures.value ∙ contains_between _ 43 128 (length s) n.start n.end n.exhausted in
+    let both : c.if-sized.of ≡ (between 43 128 (length s) && every unreserved s) = elim c.if-sized.branch [
+      | then-sized w ↦ w.of-is ∙ rw (sym sized ∙ w.if-sized.true) (w.all.ensures unreserved (search rules))
+      | else-sized w ↦ w.of-is ∙ w.if-sized.false ∙ rw (sym sized ∙ w.if-sized.false)
+    ] in
+    c.of.ensures ∙ ap form_if both

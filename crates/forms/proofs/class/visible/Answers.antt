@@ -3,4 +3,4 @@ use Rattle.forms.proofs.class.visible.Goals as goal
 
 pub returns : goal.returns
 unfolding visible
-returns c = c.between.ensures
+returns c = c.is_ascii_graphic.ensures.value
