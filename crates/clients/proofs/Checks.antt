@@ -1,4 +1,5 @@
 -- Laws by which the code's order of checks 3 and 4 gives their definitions.
+use Rattle.std.specs.Prelude.{Some, None}
 use Prim.Native.Nat.{ℕ, ◌<◌, ◌≤◌}
 use native.Mathlib.Omega.{arith}
 use mathlib.Core.Path.{◌≡◌, refl, ap, ◌∙◌}
@@ -10,7 +11,6 @@ use Rattle.octets.proofs.Tests.{false_of}
 use Rattle.clients.specs.Fields.{clients, client, entries}
 use Rattle.clients.specs.Sound.{length_right, id_given, ids_given, key_given, keys_given, ids_distinct, lifetime_fits, lifetimes_fit, rest_zero, rests_zero, sound, sound_record}
 use Rattle.clients.specs.Known.{has_id, has_key, place_of, is_known, known}
-use Rattle.clients.specs.declared.known.Known.TheVariants.{At, Unknown}
 use Rattle.clients.proofs.Entries.{length_entries}
 
 -- ---- check 3: the rules of one record in one pass, the pairs last
@@ -53,14 +53,14 @@ module _ (t v : List ℕ) where
   id_somewhere h = place_some (has_id v) (entries t) (rw (length_entries t) h)
 
   module _ (key : List ℕ) where
-    pub no_such_id : clients t ≤ place_of t v → known t v key ≡ Unknown
+    pub no_such_id : clients t ≤ place_of t v → known t v key ≡ None
     unfolding known is_known
     no_such_id h = rw (id_nowhere h)
 
-    pub key_differs : has_key key (client t (place_of t v)) ≡ false → known t v key ≡ Unknown
+    pub key_differs : has_key key (client t (place_of t v)) ≡ false → known t v key ≡ None
     unfolding known is_known
     key_differs e = rw (e, and-false)
 
-    pub key_agrees : place_of t v < clients t → has_key key (client t (place_of t v)) ≡ true → known t v key ≡ At (place_of t v)
+    pub key_agrees : place_of t v < clients t → has_key key (client t (place_of t v)) ≡ true → known t v key ≡ Some (place_of t v)
     unfolding known is_known
     key_agrees h e = rw (id_somewhere h, e)

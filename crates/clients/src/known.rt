@@ -6,12 +6,6 @@ use super::record;
 use super::record::Field;
 use octets::part::{cut, same};
 
-#[derive(Clone, Copy)]
-pub enum Known {
-    At(usize),
-    Unknown,
-}
-
 fn has_id(c: &[u8], id: &[u8; 16]) -> bool
     ensures { result ≡ has_id id.now c.now }
 {
@@ -40,15 +34,15 @@ fn place_of(table: &[u8], id: &[u8; 16]) -> usize
 }
 
 // A client is found by its id alone, since two may share a key; the key is compared afterwards.
-pub fn find(table: &[u8], id: &[u8; 16], key: &[u8; 32]) -> Known
+pub fn find(table: &[u8], id: &[u8; 16], key: &[u8; 32]) -> Option<usize>
     ensures { result ≡ known table.now id.now key.now }
 {
     let k = place_of(table, id);
     if record::clients(table) <= k {
-        return Known::Unknown;
+        return None;
     }
     if !has_key(record::client_at(table, k), key) {
-        return Known::Unknown;
+        return None;
     }
-    Known::At(k)
+    Some(k)
 }

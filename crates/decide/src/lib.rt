@@ -18,7 +18,6 @@ use desk::check;
 use desk::check::Test;
 use desk::output::hand_out;
 use ledger::clock::{Timing, set_clock};
-use ledger::find::Found;
 use ledger::limit::{Code, Ledger};
 use ledger::pool::Value;
 use ledger::record::{Life, address, check_life, redirect_length};
@@ -115,7 +114,7 @@ pub fn decide(
     let Test::Passed = check::room(out) else {
         return Decided::refused(Refusal::OutputShort);
     };
-    let Found::At(k) = finding::record::reference(ledger, reference, client) else {
+    let Some(k) = finding::record::reference(ledger, reference, client) else {
         return Decided::refused(Refusal::NoReference);
     };
     let Life::Alive = check_life(ledger::record::at(ledger, k), time) else {

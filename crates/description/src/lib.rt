@@ -14,12 +14,6 @@ mod member;
 mod scope;
 
 #[derive(Clone, Copy)]
-pub enum Written {
-    Length(usize),
-    Short,
-}
-
-#[derive(Clone, Copy)]
 pub struct Description {}
 
 impl Description {
@@ -69,28 +63,28 @@ pub fn live(
     expiry: u64,
     scope: u32,
     key: &[u8],
-) -> Written
+) -> Option<usize>
     ensures { (result ≡ written (live_text (described client.now holder expiry scope key.now)) out.old) × (out.new ≡ written_over (live_text (described client.now holder expiry scope key.now)) out.old) }
 {
     if !has_room(out.len(), client.len(), key.len()) {
-        return Written::Short;
+        return None;
     }
     let mut none = [0u8; 0];
     let n = spell(&mut none, client, holder, expiry, scope, key);
     if out.len() < n {
-        return Written::Short;
+        return None;
     }
     spell(out, client, holder, expiry, scope, key);
-    Written::Length(n)
+    Some(n)
 }
 
-pub fn inactive(out: &mut [u8]) -> Written
+pub fn inactive(out: &mut [u8]) -> Option<usize>
     ensures { (result ≡ written inactive_text out.old) × (out.new ≡ written_over inactive_text out.old) }
 {
     let what = b"{\"active\":false}";
     if out.len() < what.len() {
-        return Written::Short;
+        return None;
     }
     put(out, 0, what);
-    Written::Length(what.len())
+    Some(what.len())
 }

@@ -192,10 +192,3 @@ impl Introspected {
         }
     }
 }
-
-// What resource's looking half answers.
-#[derive(Clone, Copy)]
-pub enum Reading {
-    Granted(Answer),
-    Refused(Refusal),
-}

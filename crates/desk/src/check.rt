@@ -21,13 +21,6 @@ pub enum Test {
     Failed,
 }
 
-// What push's scope decision answers: the bits to store, or none.
-#[derive(Clone, Copy)]
-pub enum Bits {
-    Granted(u32),
-    Outside,
-}
-
 fn fits(asked: u32, given: u32) -> bool
     ensures { result ≡ scope_fits asked given }
 {
@@ -37,14 +30,14 @@ fn fits(asked: u32, given: u32) -> bool
     asked & given == asked
 }
 
-// Check 6 of push, by the permitted bits.
-pub fn granted(asked: u32, permitted: u32) -> Bits
+// Check 6 of push, by the permitted bits: the bits to store, or none.
+pub fn granted(asked: u32, permitted: u32) -> Option<u32>
     ensures { result ≡ scope_decision asked permitted }
 {
     if fits(asked, permitted) {
-        return Bits::Granted(asked);
+        return Some(asked);
     }
-    Bits::Outside
+    None
 }
 
 // Check 6 of resource, by the granted bits.

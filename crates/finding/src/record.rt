@@ -3,7 +3,7 @@ ghost use Rattle.std.specs.Prelude.{◌≡◌, ◌<◌};
 ghost use Rattle.ledger.specs.Fields.{slots};
 ghost use Rattle.ledger.specs.Checks.{found, wanted, is_free, is_with, is_reference, is_code, is_token};
 
-use ledger::find::{Found, Kind};
+use ledger::find::Kind;
 use ledger::record;
 use ledger::record::{at, slots};
 use ledger::state::{State, is_in};
@@ -66,43 +66,43 @@ fn is_wanted(r: &[u8], kind: Kind, v: &[u8; 32], id: &[u8; 16]) -> bool
     }
 }
 
-fn find(l: &[u8], kind: Kind, v: &[u8; 32], id: &[u8; 16]) -> Found
+fn find(l: &[u8], kind: Kind, v: &[u8; 32], id: &[u8; 16]) -> Option<usize>
     ensures { result ≡ found (wanted kind v.now id.now) l.now }
 {
     let n = slots(l);
     let mut k = 0;
     while k < n {
         if is_wanted(at(l, k), kind, v, id) {
-            return Found::At(k);
+            return Some(k);
         }
         k += 1;
     }
-    Found::Nothing
+    None
 }
 
 // For check 8.
-pub fn free(l: &[u8]) -> Found
+pub fn free(l: &[u8]) -> Option<usize>
     ensures { result ≡ found is_free l.now }
 {
     find(l, Kind::Vacant, &[0; 32], &[0; 16])
 }
 
 // For check 10.
-pub fn reference(l: &[u8], v: &[u8; 32], id: &[u8; 16]) -> Found
+pub fn reference(l: &[u8], v: &[u8; 32], id: &[u8; 16]) -> Option<usize>
     ensures { result ≡ found (is_reference v.now id.now) l.now }
 {
     find(l, Kind::Reference, v, id)
 }
 
 // For checks 14 and 15.
-pub fn code(l: &[u8], v: &[u8; 32], id: &[u8; 16]) -> Found
+pub fn code(l: &[u8], v: &[u8; 32], id: &[u8; 16]) -> Option<usize>
     ensures { result ≡ found (is_code v.now id.now) l.now }
 {
     find(l, Kind::Code, v, id)
 }
 
 // For check 17.
-pub fn token(l: &[u8], v: &[u8; 32]) -> Found
+pub fn token(l: &[u8], v: &[u8; 32]) -> Option<usize>
     ensures { result ≡ found (is_token v.now) l.now }
 {
     find(l, Kind::Token, v, &[0; 16])

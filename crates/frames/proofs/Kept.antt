@@ -1,4 +1,5 @@
 -- A call keeps the length of the ledger, and a frame keeps ledger and table within the largest size.
+use Rattle.std.specs.Prelude.{Result, Ok, Err}
 use Prim.Native.Nat.{ℕ, zero, suc, ◌+◌, ◌*◌, ◌≤◌, ◌<◌}
 use native.Mathlib.Omega.{arith}
 use mathlib.Core.Path.{◌≡◌, refl, sym, ap, ◌∙◌}
@@ -18,10 +19,9 @@ use Rattle.ledger.specs.Write.{pushed, consented, redeemed, free}
 use Rattle.ledger.specs.Sweep.{swept}
 use Rattle.ledger.proofs.Records.{length_records, rec_length, length_with}
 use Rattle.ledger.proofs.Swept.{length_free, length_to}
+use Rattle.desk.specs.declared.answer.Answer.{Answer}
 use Rattle.desk.specs.declared.answer.Refusal.{Refusal}
 use Rattle.desk.specs.declared.answer.Refusal.TheVariants.{LedgerUnsound, CodeRedeemed}
-use Rattle.desk.specs.declared.answer.Reading.{Reading}
-use Rattle.desk.specs.declared.answer.Reading.TheVariants.{Granted, Refused}
 use Rattle.desk.specs.Answers.{number_of}
 use Rattle.desk.specs.Checks.{Check, ◌when◌, Verdict, accepted, stopped, first}
 use Rattle.desk.specs.Requests.{PushRequest, DecideRequest, TokenRequest, ResourceRequest}
@@ -177,9 +177,9 @@ module _ (l : List ℕ) (t : ℕ) (table : List ℕ) (q : TokenRequest) where
   token_length =
       concluded (first (token_checks l t table q (code_place l q))) l (token_leaves l t (code_place l q)) (token_at l t q (code_place l q)) token_refused (λ e. token_at_lem (code_place l q) (token_inside e))
 
-by_reading : (r : Reading) (l : List ℕ) (t : ℕ) → length (resource_by r l t).ledger ≡ length l
-by_reading (Granted a) l t = simp length_put
-by_reading (Refused why) l t = refl
+by_reading : (r : Result Answer Refusal) (l : List ℕ) (t : ℕ) → length (resource_by r l t).ledger ≡ length l
+by_reading (Ok a) l t = simp length_put
+by_reading (Err why) l t = refl
 
 pub resource_length : (l : List ℕ) (t : ℕ) (q : ResourceRequest) → length (resource l t q).ledger ≡ length l
 unfolding resource

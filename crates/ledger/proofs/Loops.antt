@@ -1,10 +1,9 @@
 -- What a loop over the records keeps, whatever test it asks of each.
-use Rattle.std.proofs.Common.{◌≡◌, ℕ, suc, ◌+◌, ◌<◌, ◌≤◌, Bool, true, false, List, [], length, get_or, drop, refl, ◌∙◌, arith}
+use Rattle.std.proofs.Common.{◌≡◌, ℕ, suc, ◌+◌, ◌<◌, ◌≤◌, Bool, true, false, List, [], length, get_or, drop, refl, ◌∙◌, arith, Some, None}
 use Rattle.octets.specs.Lists.{every, some, place, apart}
 use Rattle.octets.proofs.Lists.{every_hit, every_miss, every_end, some_hit, some_miss, some_end, place_hit, place_miss, apart_hit, apart_miss, apart_end}
 use Rattle.ledger.specs.Fields.{rec, slots, records}
 use Rattle.ledger.specs.Checks.{found}
-use Rattle.ledger.specs.declared.find.Found.TheVariants.{At, Nothing}
 use Rattle.ledger.proofs.Records.{length_records, records_at}
 
 module _ (q : List ℕ → Bool) (l : List ℕ) (k : ℕ) (inside : k < slots l) where
@@ -59,7 +58,7 @@ sought_more q l k s h e =
       before = let b = s.before in let m = place_rec_miss q l k h e in omega arith;
     }
 
-pub sought_found : (q : List ℕ → Bool) (l : List ℕ) (k : ℕ) → Sought q l k → k < slots l → q (rec l k) ≡ true → found q l ≡ At k
+pub sought_found : (q : List ℕ → Bool) (l : List ℕ) (k : ℕ) → Sought q l k → k < slots l → q (rec l k) ≡ true → found q l ≡ Some k
 unfolding found
 sought_found q l k s h e =
     let b = s.before in
@@ -67,7 +66,7 @@ sought_found q l k s h e =
     let p : place q (records l) ≡ k = omega arith in
     rw (s.left ∙ some_rec_hit q l k h e, p)
 
-pub sought_end : (q : List ℕ → Bool) (l : List ℕ) (k : ℕ) → Sought q l k → slots l ≤ k → found q l ≡ Nothing
+pub sought_end : (q : List ℕ → Bool) (l : List ℕ) (k : ℕ) → Sought q l k → slots l ≤ k → found q l ≡ None
 unfolding found
 sought_end q l k s h = rw (s.left ∙ some_rec_end q l k h)
 

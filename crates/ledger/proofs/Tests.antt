@@ -1,5 +1,5 @@
 -- What a check's answer says of its condition, in the words of the table "Numbers returned".
-use Rattle.std.proofs.Common.{◌≡◌, ℕ, Bool, true, false, cond, List, sym, refl, ap, ◌∙◌, arith}
+use Rattle.std.proofs.Common.{◌≡◌, ℕ, Bool, true, false, cond, List, sym, refl, ap, ◌∙◌, arith, Option, Some, None}
 use Rattle.octets.specs.Lists.{some, place}
 use Rattle.ledger.specs.Fields.{records}
 use Rattle.ledger.specs.Sound.{sized, sound}
@@ -22,8 +22,6 @@ use Rattle.ledger.specs.declared.clock.Timing.{Timing}
 use Rattle.ledger.specs.declared.clock.Timing.TheVariants.{Timely, Untimely}
 use Rattle.ledger.specs.declared.pool.Value.{Value}
 use Rattle.ledger.specs.declared.pool.Value.TheVariants.{New, Taken}
-use Rattle.ledger.specs.declared.find.Found.{Found}
-use Rattle.ledger.specs.declared.find.Found.TheVariants.{At, Nothing}
 use Rattle.ledger.specs.declared.record.Life.{Life}
 use Rattle.ledger.specs.declared.record.Life.TheVariants.{Alive, Expired}
 
@@ -52,13 +50,13 @@ abbrev is_expired : Life → Bool
 is_expired Alive = false
 is_expired Expired = true
 
-abbrev is_at : Found → Bool
-is_at (At k) = true
-is_at Nothing = false
+abbrev is_at : Option ℕ → Bool
+is_at (Some k) = true
+is_at None = false
 
-abbrev place_in : Found → ℕ
-place_in (At k) = k
-place_in Nothing = 0
+abbrev place_in : Option ℕ → ℕ
+place_in (Some k) = k
+place_in None = 0
 
 pub size_told : (l : List ℕ) (a : Size) → check_size l ≡ a → sized l ≡ is_right a
 unfolding check_size
@@ -80,14 +78,14 @@ pub life_told : (r : List ℕ) (t : ℕ) (a : Life) → check_life r t ≡ a →
 unfolding check_life
 life_told r t a e = told is_expired Expired Alive refl refl (expired t r) a e
 
-pub found_told : (q : List ℕ → Bool) (l : List ℕ) (a : Found) → found q l ≡ a → some q (records l) ≡ is_at a
+pub found_told : (q : List ℕ → Bool) (l : List ℕ) (a : Option ℕ) → found q l ≡ a → some q (records l) ≡ is_at a
 unfolding found
-found_told q l a e = told is_at (At (place q (records l))) Nothing refl refl (some q (records l)) a e
+found_told q l a e = told is_at (Some (place q (records l))) None refl refl (some q (records l)) a e
 
-pub found_place : (q : List ℕ → Bool) (l : List ℕ) (k : ℕ) → found q l ≡ At k → place q (records l) ≡ k
+pub found_place : (q : List ℕ → Bool) (l : List ℕ) (k : ℕ) → found q l ≡ Some k → place q (records l) ≡ k
 unfolding found
 found_place q l k e = go (some q (records l)) refl
   where
     go : (b : Bool) → some q (records l) ≡ b → place q (records l) ≡ k
     go true s = ap place_in (rw s at e)
-    go false s = let n : Nothing ≡ At k = rw s at e in let z : ◌≡◌ {A = ℕ} 0 1 = cc in absurd (omega arith)
+    go false s = let n : None ≡ Some k = rw s at e in let z : ◌≡◌ {A = ℕ} 0 1 = cc in absurd (omega arith)

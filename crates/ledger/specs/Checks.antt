@@ -1,5 +1,5 @@
 -- What the calls ask of a ledger: the checks that they share, each by the enum that its function answers.
-use Rattle.std.specs.Prelude.{ℕ, Bool, cond, ◌&&◌, ◌||◌, List, nat_le, nat_lt}
+use Rattle.std.specs.Prelude.{ℕ, Bool, cond, ◌&&◌, ◌||◌, List, nat_le, nat_lt, Option, Some, None}
 use Rattle.octets.specs.Lists.{some, place}
 use Rattle.octets.specs.Parts.{zeros, same}
 use Rattle.ledger.specs.Limits.{clock_limit}
@@ -14,8 +14,6 @@ use Rattle.ledger.specs.declared.clock.Timing.{Timing}
 use Rattle.ledger.specs.declared.clock.Timing.TheVariants.{Timely, Untimely}
 use Rattle.ledger.specs.declared.pool.Value.{Value}
 use Rattle.ledger.specs.declared.pool.Value.TheVariants.{New, Taken}
-use Rattle.ledger.specs.declared.find.Found.{Found}
-use Rattle.ledger.specs.declared.find.Found.TheVariants.{At, Nothing}
 use Rattle.ledger.specs.declared.find.Kind.{Kind}
 use Rattle.ledger.specs.declared.find.Kind.TheVariants.{Vacant, Reference, Code, Token}
 use Rattle.ledger.specs.declared.record.Life.{Life}
@@ -51,8 +49,8 @@ unfoldable pub check_life : List ℕ → ℕ → Life
 check_life r t = cond (expired t r) Expired Alive
 
 -- the first record, in ledger order, that passes a test
-unfoldable pub found : (List ℕ → Bool) → List ℕ → Found
-found q l = cond (some q (records l)) (At (place q (records l))) Nothing
+unfoldable pub found : (List ℕ → Bool) → List ℕ → Option ℕ
+found q l = cond (some q (records l)) (Some (place q (records l))) None
 
 -- 8: "no free record"
 unfoldable pub is_free : List ℕ → Bool

@@ -1,10 +1,4 @@
-// What finding a record answers, and the kinds of record that a call asks for.
-#[derive(Clone, Copy)]
-pub enum Found {
-    At(usize),
-    Nothing,
-}
-
+// The kinds of record that a call asks for.
 #[derive(Clone, Copy)]
 pub enum Kind {
     Vacant,

@@ -12,13 +12,6 @@ pub enum State {
     Redeemed,
 }
 
-// What a state byte says: one of the states, or none that there is.
-#[derive(Clone, Copy)]
-pub enum Stated {
-    Is(State),
-    Unknown,
-}
-
 impl State {
     pub fn number(self) -> u8
         ensures { result ≡ state_number self }
@@ -31,15 +24,16 @@ impl State {
         }
     }
 
-    pub fn of(r: &[u8]) -> Stated
+    // What the state byte says, where there is such a state.
+    pub fn of(r: &[u8]) -> Option<State>
         ensures { result ≡ state_of r.now }
     {
         match byte(r) {
-            0 => Stated::Is(State::Free),
-            1 => Stated::Is(State::Pushed),
-            2 => Stated::Is(State::Consented),
-            3 => Stated::Is(State::Redeemed),
-            _ => Stated::Unknown,
+            0 => Some(State::Free),
+            1 => Some(State::Pushed),
+            2 => Some(State::Consented),
+            3 => Some(State::Redeemed),
+            _ => None,
         }
     }
 }

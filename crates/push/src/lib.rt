@@ -10,15 +10,13 @@ ghost use Rattle.desk.specs.Answers.{answer_of};
 ghost use Rattle.desk.specs.Outcome.{left};
 ghost use Rattle.desk.specs.Push.{entered, push};
 
-use clients::known::Known;
 use clients::lifetime::lifetime_of;
 use clients::record::{client_at, permitted};
 use clients::table::Table;
 use desk::answer::{Answer, Refusal};
 use desk::check;
-use desk::check::{Bits, Test};
+use desk::check::Test;
 use ledger::clock::{Timing, next_number, set_clock, set_next};
-use ledger::find::Found;
 use ledger::limit::Ledger;
 use ledger::pool::Value;
 use ledger::record::address;
@@ -95,19 +93,19 @@ pub fn push(
     let Table::Sound = clients::table::check(table) else {
         return Answer::refused(Refusal::TableUnsound);
     };
-    let Known::At(who) = clients::known::find(table, client, key) else {
+    let Some(who) = clients::known::find(table, client, key) else {
         return Answer::refused(Refusal::ClientUnknown);
     };
     let Test::Passed = check::texts(redirect, challenge) else {
         return Answer::refused(Refusal::IllFormed);
     };
-    let Bits::Granted(bits) = check::granted(scope, permitted(table, who)) else {
+    let Some(bits) = check::granted(scope, permitted(table, who)) else {
         return Answer::refused(Refusal::ScopeRefused);
     };
     let Value::New = finding::pool::check(ledger, fresh) else {
         return Answer::refused(Refusal::FreshTaken);
     };
-    let Found::At(k) = finding::record::free(ledger) else {
+    let Some(k) = finding::record::free(ledger) else {
         return Answer::refused(Refusal::LedgerFull);
     };
     let number = next_number(ledger);

@@ -8,7 +8,7 @@ use forms::{Challenge, Form, Redirect};
 use ledger::field::Field;
 use ledger::limit::{Expiry, Ledger};
 use ledger::record::{expiry, grant, holder, scope};
-use ledger::state::{State, Stated};
+use ledger::state::State;
 use octets::part::is_zero;
 
 fn long(n: u8) -> usize
@@ -147,7 +147,7 @@ pub fn is_record_sound(r: &[u8], next: u64) -> bool
     requires { length r.now ≡ record_size }
     ensures { result ≡ record_sound next r.now }
 {
-    let Stated::Is(state) = State::of(r) else {
+    let Some(state) = State::of(r) else {
         return false;
     };
     match state {

@@ -11,14 +11,12 @@ ghost use Rattle.desk.specs.Outcome.{left};
 ghost use Rattle.desk.specs.Token.{rewritten, ended, token};
 ghost use Rattle.s256.specs.Rule.{matching};
 
-use clients::known::Known;
 use clients::table::Table;
 use desk::answer::{Answer, Refusal};
 use desk::check;
 use desk::check::Test;
 use forms::{Form, Verifier};
 use ledger::clock::{Timing, set_clock};
-use ledger::find::Found;
 use ledger::limit::{Ledger, Token};
 use ledger::pool::Value;
 use ledger::record::{Life, address, at, check_life};
@@ -90,7 +88,7 @@ pub fn token(
     let Table::Sound = clients::table::check(table) else {
         return Answer::refused(Refusal::TableUnsound);
     };
-    let Known::At(_) = clients::known::find(table, client, key) else {
+    let Some(_) = clients::known::find(table, client, key) else {
         return Answer::refused(Refusal::ClientUnknown);
     };
     let Test::Passed = check::key(presented) else {
@@ -99,7 +97,7 @@ pub fn token(
     let Form::Well = Verifier::check(verifier) else {
         return Answer::refused(Refusal::IllFormed);
     };
-    let Found::At(k) = finding::record::code(ledger, code, client) else {
+    let Some(k) = finding::record::code(ledger, code, client) else {
         return Answer::refused(Refusal::NoCode);
     };
     let Test::Passed = check::unredeemed(at(ledger, k)) else {
