@@ -9,7 +9,11 @@ use lib.ListN.{length, get_or, drop, set, drop_of_length-le}
 use lib.Seq.{drop-cons}
 use borrow.Author.Tests.{not-true}
 use Rattle.octets.specs.Lists.{bit, every, some, count, place, apart}
-use Rattle.octets.proofs.Tests.{both, swap_and, false_of}
+use Rattle.std.proofs.Common.{ltb, lt-ltb, le-ltb}
+use Rattle.std.specs.Prelude.{All, IsTrue, ◌↔◌, position, Some, None}
+use Rattle.std.specs.List.{position_or_len}
+use mathlib.Core.Logic.{⊎_elim}
+use Rattle.octets.proofs.Tests.{both, swap_and, false_of, lt_or_le}
 
 -- ---- a loop over the elements from k on
 
@@ -168,3 +172,24 @@ module _ {A : Type 0} (clash : A → A → Bool) (d : A) where
 
   pub apart_of : (l : List A) → ((x : A) → clash x d ≡ false) → ((i j : ℕ) → i < j → j < length l → clash (get_or l i d) (get_or l j d) ≡ false) → apart clash l ≡ true
   apart_of l z = apart_of_inside l
+
+-- ---- what std's all, any and position answer, in the words of the questions
+
+pub every_all : {A : Type 0} (q : A → Bool) (l : List A) (b : Bool) → IsTrue b ↔ All (λ x. q x ≡ true) l → b ≡ every q l
+every_all q [] b h = h.1 (λ k d i. absurd (omega arith))
+every_all q (x ∷ xs) true h = sym (every_of q (x ∷ xs) x (λ k i. h.0 refl k x i))
+every_all q (x ∷ xs) false h = sym (false_of _ (λ e. false≢true (h.1 (λ k d i. every_at q (x ∷ xs) d e k i))))
+
+module _ {A : Type 0} (q : A → Bool) where
+  position_place : (l : List A) → position_or_len q l ≡ place q l
+  position_place [] = refl
+  position_place (x ∷ xs) =
+      elim (q x) as (λ (b : Bool). cond (not b) (1 + position_or_len q xs) 0 ≡ cond b 0 (suc (place q xs)))
+      [ true ↦ refl | false ↦ omega (arith, position_place xs) ]
+
+  some_place : (l : List A) (b : Bool) → some q l ≡ b → ltb (place q l) (length l) ≡ b
+  some_place l true e = lt-ltb _ _ (place_lt q l e)
+  some_place l false e = le-ltb _ _ (⊎_elim (λ h. absurd (false≢true (sym e ∙ place_some q l h))) (λ h. h) (lt_or_le (place q l) (length l)))
+
+  pub position_is : (l : List A) → position q l ≡ cond (some q l) (Some (place q l)) None
+  position_is l = rw (position_place l, some_place l (some q l) refl)
