@@ -43,6 +43,7 @@ impl Redirect {
         Redirect::MOST
     }
 
+    #[tactic(auto, using(octets::proofs::Ranges::contains_is, crate::proofs::Passing::starts_so), unfolding(crate::specs::Forms::redirect_form, crate::specs::Forms::redirect_formed))]
     pub fn check(s: &[u8]) -> Form
         ensures { result ≡ redirect_form s.now }
     {
@@ -63,6 +64,7 @@ impl Challenge {
         Challenge::LENGTH
     }
 
+    #[tactic(auto, unfolding(crate::specs::Forms::challenge_form, crate::specs::Forms::challenge_formed))]
     pub fn check(s: &[u8]) -> Form
         ensures { result ≡ challenge_form s.now }
     {
@@ -90,6 +92,7 @@ impl Verifier {
         Verifier::MOST
     }
 
+    #[tactic(auto, using(octets::proofs::Ranges::contains_is), unfolding(crate::specs::Forms::verifier_form, crate::specs::Forms::verifier_formed))]
     pub fn check(s: &[u8]) -> Form
         ensures { result ≡ verifier_form s.now }
     {
