@@ -5,7 +5,7 @@ ghost use Rattle.desk.specs.Limits.{output_least};
 ghost use Rattle.wire.specs.Answers.{answer_size, answer_most, number_bytes, swept_bytes, answer_bytes, decided_bytes};
 
 use desk::answer::{Answer, Decided, Swept};
-use octets::number::bytes16;
+use octets::number::Number;
 use octets::part::{cut, put};
 use wire::answer::bytes;
 
@@ -54,7 +54,7 @@ pub fn write_decided(out: &mut [u8], d: Decided, redirect: &[u8]) -> usize
 fn short(n: usize) -> [u8; 2]
     ensures { result ≡ digits 2 n }
 {
-    bytes16((n % 65536) as u16)
+    ((n % 65536) as u16).bytes()
 }
 
 pub fn write_swept(out: &mut [u8], s: Swept) -> usize

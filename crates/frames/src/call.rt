@@ -17,7 +17,7 @@ ghost use Rattle.frames.specs.Serve.{written, called};
 use super::answer::{write_answer, write_decided, write_swept};
 use desk::answer::{Answer, Decided, Swept};
 use forms::{Challenge, Redirect};
-use octets::number::{read32, read64};
+use octets::number::Number;
 use octets::part::{copy, cut, from};
 use wire::kind::{ClientId, Decide, Key, Kind, Push, Resource, Sweep, Token, Value};
 
@@ -48,11 +48,11 @@ fn push(f: &[u8], ledger: &mut [u8], table: &[u8]) -> Answer
     let fresh = value(cut(f, Push::FRESH, Value::WIDTH));
     push::push(
         ledger,
-        read64(from(f, Push::TIME)),
+        u64::read(from(f, Push::TIME)),
         table,
         &client,
         &key,
-        read32(from(f, Push::SCOPE)),
+        u32::read(from(f, Push::SCOPE)),
         cut(f, Push::CHALLENGE, Challenge::LENGTH),
         from(f, Push::WIDTH),
         &fresh,
@@ -68,11 +68,11 @@ fn decide(f: &[u8], ledger: &mut [u8], out: &mut [u8]) -> Decided
     let fresh = value(cut(f, Decide::FRESH, Value::WIDTH));
     decide::decide(
         ledger,
-        read64(from(f, Decide::TIME)),
+        u64::read(from(f, Decide::TIME)),
         &reference,
         &client,
         f[Decide::YES] == 1,
-        read64(from(f, Decide::HOLDER)),
+        u64::read(from(f, Decide::HOLDER)),
         &fresh,
         out,
     )
@@ -89,7 +89,7 @@ fn token(f: &[u8], ledger: &mut [u8], table: &[u8]) -> Answer
     let fresh = value(cut(f, Token::FRESH, Value::WIDTH));
     token::token(
         ledger,
-        read64(from(f, Token::TIME)),
+        u64::read(from(f, Token::TIME)),
         table,
         &client,
         &key,
@@ -108,18 +108,18 @@ fn resource(f: &[u8], ledger: &mut [u8]) -> Answer
     let key = value(cut(f, Resource::KEY, Key::WIDTH));
     resource::resource(
         ledger,
-        read64(from(f, Resource::TIME)),
+        u64::read(from(f, Resource::TIME)),
         &token,
         &key,
-        read32(from(f, Resource::SCOPE)),
-        read64(from(f, Resource::HOLDER)),
+        u32::read(from(f, Resource::SCOPE)),
+        u64::read(from(f, Resource::HOLDER)),
     )
 }
 
 fn sweep(f: &[u8], ledger: &mut [u8]) -> Swept
     ensures { left result ledger.new ≡ sweep ledger.old (time f.now) }
 {
-    sweep::sweep(ledger, read64(from(f, Sweep::TIME)))
+    sweep::sweep(ledger, u64::read(from(f, Sweep::TIME)))
 }
 
 fn blank_redirect() -> [u8; Redirect::MOST]

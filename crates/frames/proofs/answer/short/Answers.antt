@@ -3,4 +3,4 @@ use Rattle.frames.proofs.Answers.{short_digits}
 use Rattle.frames.proofs.answer.short.Goals as goal
 
 pub returns : goal.returns
-returns c = c.bytes16.ensures ∙ short_digits _
+returns c = c.bytes.ensures ∙ short_digits _

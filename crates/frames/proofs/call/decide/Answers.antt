@@ -14,4 +14,4 @@ value-fresh-requires c = cut_length c.args.f.now 66 32 _ c.cut-3.ensures (omega 
 
 pub returns : goal.returns
 returns c =
-    decide_asked c.args.f.now c.args.ledger.now c.args.out.now (c.id-client.ensures ∙ c.cut.ensures) (c.value-reference.ensures ∙ c.cut-2.ensures) (c.value-fresh.ensures ∙ c.cut-3.ensures) (read_at c.args.f.now 1 8 c.from.ensures c.read64.ensures) (read_at c.args.f.now 58 8 c.from-2.ensures c.read64-2.ensures) c.decide.ensures
+    decide_asked c.args.f.now c.args.ledger.now c.args.out.now (c.id-client.ensures ∙ c.cut.ensures) (c.value-reference.ensures ∙ c.cut-2.ensures) (c.value-fresh.ensures ∙ c.cut-3.ensures) (read_at c.args.f.now 1 8 c.from.ensures c.read.ensures) (read_at c.args.f.now 58 8 c.from-2.ensures c.read-2.ensures) c.decide.ensures

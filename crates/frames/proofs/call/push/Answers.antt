@@ -14,4 +14,4 @@ value-fresh-requires c = cut_length c.args.f.now 104 32 _ c.cut-3.ensures (omega
 
 pub returns : goal.returns
 returns c =
-    push_asked c.args.f.now c.args.ledger.now c.args.table.now (c.id-client.ensures ∙ c.cut.ensures) (c.value-key.ensures ∙ c.cut-2.ensures) (c.value-fresh.ensures ∙ c.cut-3.ensures) (read_at c.args.f.now 1 8 c.from.ensures c.read64.ensures) (read_at c.args.f.now 57 4 c.from-2.ensures c.read32.ensures) c.cut-4.ensures c.from-3.ensures c.push.ensures
+    push_asked c.args.f.now c.args.ledger.now c.args.table.now (c.id-client.ensures ∙ c.cut.ensures) (c.value-key.ensures ∙ c.cut-2.ensures) (c.value-fresh.ensures ∙ c.cut-3.ensures) (read_at c.args.f.now 1 8 c.from.ensures c.read.ensures) (read_at c.args.f.now 57 4 c.from-2.ensures c.read-2.ensures) c.cut-4.ensures c.from-3.ensures c.push.ensures

@@ -20,4 +20,4 @@ value-fresh-requires c = cut_length c.args.f.now 121 32 _ c.cut-5.ensures (omega
 
 pub returns : goal.returns
 returns c =
-    token_asked c.args.f.now c.args.ledger.now c.args.table.now (c.id-client.ensures ∙ c.cut.ensures) (c.value-key.ensures ∙ c.cut-2.ensures) (c.value-presented.ensures ∙ c.cut-3.ensures) (c.value-code.ensures ∙ c.cut-4.ensures) (c.value-fresh.ensures ∙ c.cut-5.ensures) (read_at c.args.f.now 1 8 c.from.ensures c.read64.ensures) c.from-2.ensures c.token.ensures
+    token_asked c.args.f.now c.args.ledger.now c.args.table.now (c.id-client.ensures ∙ c.cut.ensures) (c.value-key.ensures ∙ c.cut-2.ensures) (c.value-presented.ensures ∙ c.cut-3.ensures) (c.value-code.ensures ∙ c.cut-4.ensures) (c.value-fresh.ensures ∙ c.cut-5.ensures) (read_at c.args.f.now 1 8 c.from.ensures c.read.ensures) c.from-2.ensures c.token.ensures
