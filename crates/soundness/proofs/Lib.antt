@@ -1,4 +1,3 @@
--- Laws of the rules by state, of the short cuts, and of a redirect's place in its record.
-mod Rules
+-- That a ledger is cut into its records, what `all` answers, and that the short cuts miss nothing.
+mod Cut
 mod ShortCuts
-mod Redirects

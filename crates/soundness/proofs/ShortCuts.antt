@@ -1,21 +1,20 @@
 -- The short cuts of the pairwise searches miss nothing.
-use Prim.Native.Nat.{ℕ, ◌+◌}
-use native.Mathlib.Omega.{arith}
-use mathlib.Core.Path.{◌≡◌, refl, sym, ap, ◌∙◌}
+use Prim.Native.Nat.{ℕ, ◌+◌, ◌<◌}
+use mathlib.Core.Path.{◌≡◌, refl, sym, ap}
 use mathlib.Core.Bool.{Bool, true, false, not, ◌||◌, and-false, true≢false}
 use mathlib.Core.List.{List, [], ◌∷◌}
 use lib.Dec.{eqb}
-use lib.ListN.{drop}
+use lib.ListN.{length, get_or, drop}
 use lib.Seq.{take-add, drop-drop}
 use borrow.Author.Tests.{eqb-false}
-use Rattle.octets.specs.Lists.{some}
+use Rattle.octets.specs.Lists.{some, apart}
 use Rattle.octets.specs.Parts.{part, zeros, same}
+use Rattle.octets.proofs.Lists.{apart_miss}
 use Rattle.octets.proofs.Parts.{same_eq, zeros_append}
 use Rattle.octets.proofs.Tests.{false_of}
-use Rattle.ledger.specs.Fields.{slots, records, value_span, token_span, value, token, in_state}
+use Rattle.ledger.specs.Fields.{value_span, token_span, value, token, in_state}
 use Rattle.ledger.specs.Sound.{holds, meets, same_grant}
-use Rattle.soundness.specs.Quick.{lead, token_lead, near, idle, partner}
-use Rattle.ledger.proofs.Loops.{some_rec_end}
+use Rattle.soundness.specs.Quick.{lead, token_lead, near}
 use Rattle.ledger.specs.declared.state.State.TheVariants.{Free}
 
 or_l : (a b : Bool) → (a || b) ≡ false → a ≡ false
@@ -61,8 +60,8 @@ near_none r s e =
     rw (holds_none (value r) s a c) (token_none r s b d)
 
 -- a record that holds nothing meets none
-pub idle_none : (r : List ℕ) → idle r ≡ true → (s : List ℕ) → meets r s ≡ false
-unfolding idle meets
+pub idle_none : (r : List ℕ) → zeros (part r value_span.place (value_span.width + token_span.width)) ≡ true → (s : List ℕ) → meets r s ≡ false
+unfolding meets
 idle_none r e s =
     let a = value_span.place in
     let n = value_span.width in
@@ -75,13 +74,11 @@ pub free_none : (r : List ℕ) → in_state Free r ≡ true → (s : List ℕ) �
 unfolding same_grant
 free_none r e s = rw e
 
--- where a record is passed over, nothing is missed
-pub row_start : (q : List ℕ → Bool) (l : List ℕ) (i n : ℕ) (b : Bool) → n ≡ slots l → (b ≡ true → (s : List ℕ) → q s ≡ false)
-    → some q (drop (i + 1) (records l)) ≡ some q (drop (partner b i n) (records l))
-unfolding partner
-row_start q l i n true e none = none_in (drop (i + 1) (records l)) ∙ sym (some_rec_end q l n (omega arith))
+-- where a record clashes with none, it is passed over and nothing is missed
+pub passed : (clash : List ℕ → List ℕ → Bool) (l : List (List ℕ)) (i : ℕ) → i < length l → ((s : List ℕ) → clash (get_or l i []) s ≡ false)
+    → apart clash (drop i l) ≡ apart clash (drop (i + 1) l)
+passed clash l i h none = apart_miss clash l [] i h (none_in (drop (i + 1) l))
   where
-    none_in : (xs : List (List ℕ)) → some q xs ≡ false
+    none_in : (xs : List (List ℕ)) → some (clash (get_or l i [])) xs ≡ false
     none_in [] = refl
-    none_in (x ∷ xs) = rw (none refl x, none_in xs)
-row_start q l i n false e none = refl
+    none_in (x ∷ xs) = rw (none x, none_in xs)

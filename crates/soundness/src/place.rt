@@ -1,15 +1,15 @@
-// A record in its place, for loops that know that it is there.
-ghost use Rattle.std.specs.Prelude.{◌≡◌, ◌<◌, length};
-ghost use Rattle.ledger.specs.Limits.{record_size};
-ghost use Rattle.ledger.specs.Fields.{rec, slots};
+// The records of a ledger, each in its place: cut once, and lent on with their length in the type.
+ghost use Rattle.std.specs.Prelude.{◌≡◌};
+ghost use Rattle.ledger.specs.Fields.{records};
 
 use ledger::limit::Ledger;
-use ledger::record::address;
+use octets::part::from;
 
-pub fn whole(l: &[u8], k: usize) -> &[u8]
-    requires { k < slots l.now }
-    ensures { (result.now ≡ rec l.now k) × (length result.now ≡ record_size) }
+pub type Record = [u8; Ledger::RECORD];
+
+pub fn records(l: &[u8]) -> &[Record]
+    ensures { result.now ≡ records l.now }
 {
-    let a = address(k);
-    &l[a..a + Ledger::RECORD]
+    let (records, _) = from(l, Ledger::HEAD).as_chunks::<{ Ledger::RECORD }>();
+    records
 }

@@ -1,43 +1,13 @@
-use Rattle.std.proofs.Common.{ap, arith, drop, not, refl, rules, sym, ℕ, ◌∙◌}
-use Rattle.ledger.proofs.Loops.{some_rec_hit, some_rec_miss, some_rec_end, apart_rec_hit, apart_rec_miss, apart_rec_end}
-use Rattle.soundness.proofs.ShortCuts.{row_start, idle_none}
-use Rattle.ledger.specs.Fields.{rec, records}
-use Rattle.soundness.specs.Quick.{idle}
+use Rattle.std.proofs.Common.{[], arith, get_or, sym, ◌∙◌}
 use Rattle.ledger.specs.Sound.{meets}
-use Rattle.octets.specs.Lists.{some}
+use Rattle.soundness.proofs.ShortCuts.{passed, idle_none}
 use Rattle.soundness.proofs.pool.values_apart.Goals as goal
-use Rattle.soundness.proofs.pool.values_apart.Goals.{else-search-test, then-search-test+then-loop-j-test+then-is_meeting}
 
-pub search-init : goal.search-init
-search-init c = (c.slots-n.ensures, search rules, refl, refl)
-
-pub loop-j-init : goal.loop-j-init
-unfolding idle
-loop-j-init c = let l = c.args.l.now in let i = c.search.i in let s = row_start (meets (rec l i)) l i _ c.is_zero.result c.search.invariant.0 (λ h. idle_none (rec l i) (sym (rw c.whole-r.ensures.0 at c.is_zero.ensures) ∙ h)) in (search rules, search rules, search rules, search rules, s ∙ ap (λ (j : ℕ). some (meets (rec l i)) (drop j (records l))) (sym c.partner-j.ensures.0))
-
-pub loop-j-preserved : goal.loop-j-preserved
-loop-j-preserved c = let l = c.args.l.now in let i = c.search.i in let p = c.loop-j in (search rules, search rules, search rules, search rules, p.invariant.4 ∙ some_rec_miss (meets (rec l i)) l p.j (omega arith) (rw (c.whole-r.ensures.0, c.whole.ensures.0) at (sym c.is_meeting.ensures ∙ c.if-is_meeting.false)))
-
-pub search-preserved : goal.search-preserved
-search-preserved c = let l = c.args.l.now in let t = c.search in let p = c.loop-j in (search rules, search rules, search rules, t.invariant.3 ∙ apart_rec_miss meets l t.i (omega arith) (p.invariant.4 ∙ some_rec_end (meets (rec l t.i)) l p.j (omega arith)))
-
-pub returns : goal.returns
-returns c =
-    let q = c.search in
-    let l = c.args.l.now in
-    elim c.search-test.branch [
-      | else-search-test w ↦
-          ap not (w.clash-is ∙ q.invariant.2) ∙ sym (q.invariant.3 ∙ apart_rec_end meets l q.i (omega (arith, w.search-test.false)))
-      | then-search-test+then-loop-j-test+then-is_meeting w ↦
-          let j = w.loop-j.j in
-          ap not w.clash-is
-          ∙ sym (
-          q.invariant.3
-          ∙ apart_rec_hit meets l q.i (omega (arith, w.search-test.true)) (
-          w.loop-j.invariant.4
-          ∙ some_rec_hit (meets (rec l q.i)) l j (omega (arith, w.loop-j-test.true)) (
-          rw (w.whole-r.ensures.0, w.whole.ensures.0) at (sym w.is_meeting.ensures ∙ w.if-is_meeting.true)
-          )
-          )
-          )
-    ]
+pub search-preserved-then-is_zero : goal.search-preserved-then-is_zero
+search-preserved-then-is_zero c =
+    let p = c.search in
+    let l = c.args.records.now in
+    record {
+      unclashed = p.invariant.unclashed;
+      left = p.invariant.left ∙ passed meets l p.i (omega arith) (idle_none (get_or l p.i []) (sym c.is_zero.ensures ∙ c.if-is_zero.true));
+    }
