@@ -42,6 +42,7 @@ fn is_same_grant(r: &Record, s: &Record) -> bool
 }
 
 // Grant numbers are distinct: each pair of records is looked at, up to the first clash. A free record has no number to compare.
+#[tactic(auto, using(crate::proofs::ShortCuts::free_passed))]
 pub fn grants_apart(records: &[Record]) -> bool
     ensures { result ≡ apart same_grant records.now }
 {
@@ -106,6 +107,7 @@ impl<'a> Held<'a> {
 }
 
 // No value or token stands twice: each pair of records is looked at, up to the first clash. A record that holds nothing meets none.
+#[tactic(auto, using(crate::proofs::ShortCuts::idle_passed))]
 pub fn values_apart(records: &[Record]) -> bool
     ensures { result ≡ apart meets records.now }
 {

@@ -13,7 +13,6 @@ use ledger::record::{
 use ledger::state::State;
 use octets::part::{cut, from, is_zero};
 
-#[tactic(auto, using(forms::proofs::Laws::redirect_well, forms::proofs::Laws::redirect_ill))]
 fn is_redirect_sound(r: &Record) -> bool
     ensures { result ≡ redirect_sound r.now }
 {

@@ -1,9 +1,15 @@
-use Rattle.std.proofs.Common.{rules, true, ◌≡◌}
-use Rattle.forms.proofs.Laws.{redirect_well}
+use Rattle.std.proofs.Common.{rules, true, false, ◌≡◌}
+use Rattle.forms.proofs.Laws.{redirect_well, redirect_ill}
 use Rattle.forms.specs.Forms.{redirect_formed}
 use Rattle.ledger.specs.Fields.{redirect}
 use Rattle.ledger.specs.Sound.{length_sound}
+use mathlib.Core.Bool.{and-false}
 use Rattle.soundness.proofs.record.is_redirect_sound.Goals as goal
+
+pub returns-in_default : goal.returns-in_default
+returns-in_default c =
+    let f : redirect_formed (redirect c.args.r.now) ≡ false = search (rules, redirect_ill) in
+    simp (f, and-false)
 
 pub returns : goal.returns
 returns c =
