@@ -25,9 +25,9 @@ fn is_sized(l: &[u8]) -> bool
     ensures { result ≡ sized l.now }
 {
     let n = l.len();
-    Ledger::HEAD + Ledger::LEAST * Ledger::RECORD <= n
-        && n <= Ledger::HEAD + Ledger::MOST * Ledger::RECORD
-        && (n - Ledger::HEAD) % Ledger::RECORD == 0
+    let least = Ledger::HEAD + Ledger::LEAST * Ledger::RECORD;
+    let most = Ledger::HEAD + Ledger::MOST * Ledger::RECORD;
+    (least..=most).contains(&n) && (n - Ledger::HEAD) % Ledger::RECORD == 0
 }
 
 // The length alone, for a buffer whose old content is ignored.

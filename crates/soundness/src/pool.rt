@@ -95,7 +95,7 @@ impl<'a> Held<'a> {
     {
         let v = lead(value(s));
         let t = lead(token(s));
-        (v == self.first) | ((v == self.second) | ((t == self.first) | (t == self.second)))
+        v == self.first || v == self.second || t == self.first || t == self.second
     }
 
     #[tactic(auto, using(crate::proofs::ShortCuts::near_none))]

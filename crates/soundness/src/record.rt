@@ -30,11 +30,9 @@ fn is_redirect_sound(r: &Record) -> bool
 fn is_numbers_sound(r: &Record, next: u64) -> bool
     ensures { result ≡ numbers_sound next r.now }
 {
-    let number = grant(r);
     is_zero(&r[Field::GAP_ONE..Field::SCOPE])
         && is_zero(&r[Field::GAP_TWO..Field::VALUE])
-        && 1 <= number
-        && number < next
+        && (1..next).contains(&grant(r))
         && scope(r) != 0
         && expiry(r) < Expiry::LIMIT
 }
