@@ -95,7 +95,8 @@ impl<'a> Held<'a> {
     {
         let v = lead(value(s));
         let t = lead(token(s));
-        v == self.first || v == self.second || t == self.first || t == self.second
+        // All four at once: with a way out after each, the search of a full ledger takes a quarter longer.
+        (v == self.first) | (v == self.second) | (t == self.first) | (t == self.second)
     }
 
     #[tactic(auto, using(crate::proofs::ShortCuts::near_none))]
