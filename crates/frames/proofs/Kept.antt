@@ -19,6 +19,7 @@ use Rattle.ledger.specs.Write.{pushed, consented, redeemed, free}
 use Rattle.ledger.specs.Sweep.{swept}
 use Rattle.ledger.proofs.Records.{length_records, rec_length, length_with}
 use Rattle.ledger.proofs.Swept.{length_free, length_to}
+use Rattle.desk.specs.declared.answer.Answer.{Answer}
 use Rattle.desk.specs.declared.answer.Refusal.{Refusal}
 use Rattle.desk.specs.declared.answer.Refusal.TheVariants.{LedgerUnsound, CodeRedeemed}
 use Rattle.desk.specs.Answers.{number_of}

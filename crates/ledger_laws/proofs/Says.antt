@@ -21,6 +21,7 @@ use Rattle.ledger.specs.Limits.{clock_limit, expiry_limit, head_size, record_siz
 use Rattle.ledger.specs.Fields.{clock, next_number, head_rest, rec, slots, records, state, state_number, stated, used, redirect_length, gap_one, gap_two, scope, grant, expiry, holder, client, challenge, value, token, bound_key, redirect, behind_redirect}
 use Rattle.ledger.specs.Sound.{sized, numbers_sound, bytes_sound, used_sound, no_token, some_token, sound_in, sound_as, record_sound, same_grant, holds, meets, own_apart, head_sound, sound}
 use Rattle.ledger.specs.Write.{free}
+use Rattle.ledger.specs.declared.state.State.{State}
 use Rattle.ledger.specs.declared.state.State.TheVariants.{Free, Pushed, Consented, Redeemed}
 use Rattle.ledger.proofs.States.{state_cases}
 use Rattle.ledger.proofs.Records.{length_records, records_at}
