@@ -1,3 +1,2 @@
--- That a ledger is cut into its records, what `all` answers, and that the short cuts miss nothing.
-mod Cut
+-- The short cuts of the pairwise searches miss nothing.
 mod ShortCuts

@@ -2,7 +2,6 @@
 // It rests on ledger, forms and octets; every call of the desk begins with it. Both public functions take any slice.
 #![tactic(auto)]
 
-mod place;
 mod pool;
 mod record;
 
@@ -14,9 +13,9 @@ ghost use Rattle.ledger.specs.Checks.{check_size, check_sound};
 use ledger::clock::{clock, next_number};
 use ledger::field::Head;
 use ledger::limit::{Clock, Ledger};
+use ledger::record::{Record, records};
 use ledger::sound::{Size, Soundness};
 use octets::part::{cut, is_zero};
-use place::{Record, records};
 use pool::{grants_apart, own_apart, values_apart};
 use record::is_record_sound;
 

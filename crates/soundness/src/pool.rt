@@ -5,10 +5,9 @@ ghost use Rattle.ledger.specs.Fields.{value};
 ghost use Rattle.ledger.specs.Sound.{same_grant, meets, own_apart};
 ghost use Rattle.soundness.specs.Quick.{lead, token_lead, near};
 
-use super::place::Record;
 use ledger::field::Field;
 use ledger::pool::holds;
-use ledger::record::{grant, token, value};
+use ledger::record::{Record, grant, token, value};
 use ledger::state::{State, is_in};
 use octets::part::{is_zero, same};
 

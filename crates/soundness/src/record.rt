@@ -2,13 +2,12 @@
 ghost use Rattle.std.specs.Prelude.{◌≡◌};
 ghost use Rattle.ledger.specs.Sound.{redirect_sound, numbers_sound, bytes_sound, used_sound, no_token, some_token, sound_in, record_sound};
 
-use super::place::Record;
 use forms::{Challenge, Form, Redirect};
 use ledger::field::Field;
 use ledger::limit::Expiry;
 use ledger::record::{
-    bound_key, challenge, client, expiry, grant, holder, redirect_field, redirect_length, scope,
-    token, value,
+    Record, bound_key, challenge, client, expiry, grant, holder, redirect_field, redirect_length,
+    scope, token, value,
 };
 use ledger::state::State;
 use octets::part::{cut, from, is_zero};

@@ -1,6 +1,6 @@
 use Rattle.std.proofs.Common.{rules}
 use Rattle.ledger.specs.Sound.{own_apart}
-use Rattle.soundness.proofs.Cut.{every_all}
+use Rattle.octets.proofs.Lists.{every_all}
 use Rattle.soundness.proofs.pool.own_apart.Goals as goal
 
 pub returns : goal.returns
