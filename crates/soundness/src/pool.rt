@@ -107,6 +107,7 @@ impl<'a> Held<'a> {
 }
 
 // No value or token stands twice: each pair of records is looked at, up to the first clash. A record that holds nothing meets none.
+// A search of its own: its rows are made ready, those of the grants are not, and one that is generic in row and test is no plainer.
 #[tactic(auto, using(crate::proofs::ShortCuts::idle_passed))]
 pub fn values_apart(records: &[Record]) -> bool
     ensures { result ≡ apart meets records.now }
