@@ -12,6 +12,7 @@ use ledger::record::{
 use ledger::state::State;
 use octets::part::{cut, from, is_zero};
 
+#[tactic(auto, using(octets::proofs::Ranges::contains_is, forms::proofs::Laws::redirect_well, forms::proofs::Laws::redirect_ill))]
 fn is_redirect_sound(r: &Record) -> bool
     ensures { result ≡ redirect_sound r.now }
 {
