@@ -26,30 +26,15 @@ module _ {A : Type 0} (q : A → Bool) (l : List A) (d : A) (k : ℕ) where
   pub every_miss : k < length l → q (get_or l k d) ≡ true → every q (drop k l) ≡ every q (drop (k + 1) l)
   every_miss h e = rw (add-one, drop-cons l k d h, e)
 
-  pub some_hit : k < length l → q (get_or l k d) ≡ true → some q (drop k l) ≡ true
-  some_hit h e = rw (drop-cons l k d h, e)
-
-  pub some_miss : k < length l → q (get_or l k d) ≡ false → some q (drop k l) ≡ some q (drop (k + 1) l)
-  some_miss h e = rw (add-one, drop-cons l k d h, e)
-
 module _ {A : Type 0} (q : A → Bool) (l : List A) (k : ℕ) where
   pub every_end : length l ≤ k → every q (drop k l) ≡ true
   every_end h = rw (drop_of_length-le l h)
 
-  pub some_end : length l ≤ k → some q (drop k l) ≡ false
-  some_end h = rw (drop_of_length-le l h)
-
 -- ---- a loop over the pairs of elements
 
 module _ {A : Type 0} (clash : A → A → Bool) (l : List A) (d : A) (i : ℕ) where
-  pub apart_hit : i < length l → some (clash (get_or l i d)) (drop (i + 1) l) ≡ true → apart clash (drop i l) ≡ false
-  apart_hit h e = let f = rw add-one at e in rw (drop-cons l i d h, f)
-
   pub apart_miss : i < length l → some (clash (get_or l i d)) (drop (i + 1) l) ≡ false → apart clash (drop i l) ≡ apart clash (drop (i + 1) l)
   apart_miss h e = let f = rw add-one at e in rw (add-one, drop-cons l i d h, f)
-
-pub apart_end : {A : Type 0} (clash : A → A → Bool) (l : List A) (i : ℕ) → length l ≤ i → apart clash (drop i l) ≡ true
-apart_end clash l i h = rw (drop_of_length-le l h)
 
 -- ---- what the answers say
 

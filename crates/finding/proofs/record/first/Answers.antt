@@ -2,7 +2,7 @@ use Rattle.std.proofs.Common.{rules, ap, ◌∙◌}
 use Rattle.std.specs.Prelude.{position}
 use Rattle.std.proofs.lemmas.Iterator.{YieldsList-from_slice}
 use Rattle.std.proofs.lemmas.Iterator.Search.{position_from_yields_List}
-use Rattle.ledger.proofs.Loops.{found_is}
+use Rattle.ledger.proofs.Tests.{found_is}
 use Rattle.finding.proofs.record.first.Goals as goal
 
 pub returns : goal.returns
