@@ -14,6 +14,7 @@ use Rattle.desk.specs.Answers.{done, number_of}
 use Rattle.desk.specs.declared.answer.Refusal.TheVariants.{LedgerUnsound, TableUnsound}
 use Rattle.desk.specs.Outcome.{Outcome, left}
 use Rattle.desk.specs.Start.{start, empty_ledger}
+use Rattle.std.proofs.Common.{Option}
 use Rattle.wire.specs.declared.kind.Kind.{Kind}
 use Rattle.texts.specs.Hex.{between}
 use Rattle.wire.specs.Kinds.{kind_of, least}
@@ -147,8 +148,8 @@ module _ (l t : List ℕ) (n m : ℕ) (used : n ≤ length l) (listed : m ≤ le
       rw (hi, hj, ha, o1, o2, o3, length-take-le n l used, laid_front n l used)
 
 -- the kind that was found
-pub by_kind : (k : Kind) (f l t : List ℕ) (d : Desk) → kind_of f ≡ k → {p : Placed} → p ≡ place (serve k f d) l t → p ≡ place (serve (kind_of f) f d) l t
-by_kind k f l t d e h = h ∙ ap (λ (j : Kind). place (serve j f d) l t) (sym e)
+pub by_kind : (k : Option Kind) (f l t : List ℕ) (d : Desk) → kind_of f ≡ k → {p : Placed} → p ≡ place (serve k f d) l t → p ≡ place (serve (kind_of f) f d) l t
+by_kind k f l t d e h = h ∙ ap (λ (j : Option Kind). place (serve j f d) l t) (sym e)
 
 -- what is no frame changes nothing
 pub at_none : (s : Served) (l t : List ℕ) (n m : ℕ) → n ≤ length l → m ≤ length t → s ≡ served (take n l) (take m t) no_frame

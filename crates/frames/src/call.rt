@@ -128,7 +128,7 @@ fn blank_redirect() -> [u8; Redirect::MOST]
     [0u8; Redirect::MOST]
 }
 
-// The call that a frame's kind names, and its answer's bytes. A kind that names none does nothing.
+// The call that a frame's kind names, and its answer's bytes. Start and client name none, and do nothing.
 pub fn call(kind: Kind, f: &[u8], ledger: &mut [u8], table: &[u8], out: &mut [u8]) -> usize
     requires { (least kind ≤ length f.now) × (length out.old ≡ answer_most) }
     ensures { (result ≤ answer_most) × (written ledger.new (take result out.new) ≡ called kind f.now ledger.old table.now) }
@@ -143,8 +143,6 @@ pub fn call(kind: Kind, f: &[u8], ledger: &mut [u8], table: &[u8], out: &mut [u8
         Kind::Token => write_answer(out, token(f, ledger, table)),
         Kind::Resource => write_answer(out, resource(f, ledger)),
         Kind::Sweep => write_swept(out, sweep(f, ledger)),
-        Kind::Start => 0,
-        Kind::Client => 0,
-        Kind::NoFrame => 0,
+        Kind::Start | Kind::Client => 0,
     }
 }

@@ -108,23 +108,19 @@ pub fn serve(
     requires { (Fitting n m ledger.old table.old) × (length out.old ≡ answer_most) }
     ensures { (result.count ≤ answer_most) × (placed result.ledger result.table ledger.new table.new (take result.count out.new) ≡ place (serve (kind_of f.now) f.now (desk_in n m ledger.old table.old)) ledger.old table.old) }
 {
-    match kind_of(f) {
+    let Some(kind) = kind_of(f) else {
+        let count = write_number(out, Said::NO_FRAME);
+        return Served::with(n, m, count);
+    };
+    match kind {
         Kind::Start => {
             let w = start(f, n, ledger, out);
             Served::with(w.used, m, w.count)
         }
-        Kind::Push => on_ledger(Kind::Push, f, n, m, ledger, table, out),
-        Kind::Decide => on_ledger(Kind::Decide, f, n, m, ledger, table, out),
-        Kind::Token => on_ledger(Kind::Token, f, n, m, ledger, table, out),
-        Kind::Resource => on_ledger(Kind::Resource, f, n, m, ledger, table, out),
-        Kind::Sweep => on_ledger(Kind::Sweep, f, n, m, ledger, table, out),
         Kind::Client => {
             let w = append(f, m, table, out);
             Served::with(n, w.used, w.count)
         }
-        Kind::NoFrame => {
-            let count = write_number(out, Said::NO_FRAME);
-            Served::with(n, m, count)
-        }
+        _ => on_ledger(kind, f, n, m, ledger, table, out),
     }
 }

@@ -12,7 +12,7 @@ use borrow.Author.Tests.{leb-true, leb-false, eqb-true, le-leb, lt-leb, eq-eqb, 
 use Rattle.octets.specs.Parts.{laid}
 use Rattle.octets.proofs.Parts.{length_laid}
 use Rattle.octets.proofs.Tests.{both}
-use Rattle.wire.specs.declared.kind.Kind.TheVariants.{NoFrame}
+use Rattle.std.proofs.Common.{None}
 use Rattle.frames.specs.Limits.{line_most, line_kept, ledger_most, table_most, answer_line}
 use Rattle.texts.specs.Hex.{decoded}
 use Rattle.frames.specs.Line.{line_end, line_of}
@@ -69,7 +69,7 @@ to_fits h f = fits_last h f.line f.ledger f.table f.gathered f.used ∙ le-leb h
 -- ---- a line's end
 
 -- a line that is too long is no frame
-long : (l : List ℕ) → line_most < length l → frame_kind l ≡ NoFrame
+long : (l : List ℕ) → line_most < length l → frame_kind l ≡ None
 unfolding frame_kind
 long l h = rw (lt-leb (length l) 640 h)
 
@@ -83,8 +83,8 @@ serve_kept l d = go (leb (length l) line_most) refl
     go false e =
         let h = leb-false (length l) 640 e in
         let n : length (take 641 l) ≡ 641 = length-take-le 641 l (omega arith) in
-        let a : frame_kind (take 641 l) ≡ NoFrame = long (take 641 l) (omega arith) in
-        let b : frame_kind l ≡ NoFrame = long l h in
+        let a : frame_kind (take 641 l) ≡ None = long (take 641 l) (omega arith) in
+        let b : frame_kind l ≡ None = long l h in
         rw (a, b)
 
 pub take_laid : (xs l : List ℕ) → length xs ≤ length l → take (length xs) (laid xs l) ≡ xs

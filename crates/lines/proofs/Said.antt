@@ -16,8 +16,9 @@ use Rattle.desk.specs.Checks.{Verdict, accepted, stopped, first}
 use Rattle.desk.specs.Requests.{DecideRequest}
 use Rattle.desk.specs.Outcome.{Outcome, concludes}
 use Rattle.desk.specs.Decide.{decide, decide_leaves, decide_checks, decide_at, consent_at, decline_at, reference_place}
+use Rattle.std.proofs.Common.{Option, None, Some}
 use Rattle.wire.specs.declared.kind.Kind.{Kind}
-use Rattle.wire.specs.declared.kind.Kind.TheVariants.{Start, Push, Decide, Token, Resource, Sweep, Client, NoFrame}
+use Rattle.wire.specs.declared.kind.Kind.TheVariants.{Start, Push, Decide, Token, Resource, Sweep, Client}
 use Rattle.wire.specs.Answers.{answer_most}
 use Rattle.frames.specs.Limits.{answer_line, table_most}
 use Rattle.texts.specs.Hex.{between, decoded}
@@ -65,17 +66,17 @@ by_test : (b : Bool) (v w : Written) → length v.answer ≤ answer_most → len
 by_test true v w f g = f
 by_test false v w f g = g
 
-serve_most : (k : Kind) (f : List ℕ) (d : Desk) → length (serve k f d).answer ≤ answer_most
+serve_most : (k : Option Kind) (f : List ℕ) (d : Desk) → length (serve k f d).answer ≤ answer_most
 unfolding pushed decided redeemed read swept started appended
-serve_most Start f d = by_test (between 1 200 (slot_count f)) _ _ (omega arith) (omega arith)
-serve_most Push f d = rw (answer_length _) (omega arith)
-serve_most Decide f d =
+serve_most (Some Start) f d = by_test (between 1 200 (slot_count f)) _ _ (omega arith) (omega arith)
+serve_most (Some Push) f d = rw (answer_length _) (omega arith)
+serve_most (Some Decide) f d =
     decided_most _ _ (let e = decide_output d.ledger (time f) (decide_request f) (blank 64) in let n = length_blank 64 in omega arith)
-serve_most Token f d = rw (answer_length _) (omega arith)
-serve_most Resource f d = rw (answer_length _) (omega arith)
-serve_most Sweep f d = rw (swept_length _) (omega arith)
-serve_most Client f d = by_test (leb (length d.table + 64) table_most) _ _ (omega arith) (omega arith)
-serve_most NoFrame f d = omega arith
+serve_most (Some Token) f d = rw (answer_length _) (omega arith)
+serve_most (Some Resource) f d = rw (answer_length _) (omega arith)
+serve_most (Some Sweep) f d = rw (swept_length _) (omega arith)
+serve_most (Some Client) f d = by_test (leb (length d.table + 64) table_most) _ _ (omega arith) (omega arith)
+serve_most None f d = omega arith
 
 pub answer_most_lem : (l : List ℕ) (d : Desk) → length (serve_line l d).answer ≤ answer_most
 unfolding serve_line

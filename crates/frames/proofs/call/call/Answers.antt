@@ -1,8 +1,8 @@
-use Rattle.std.proofs.Common.{refl, rules}
+use Rattle.std.proofs.Common.{rules}
 use Rattle.frames.proofs.Answers.{by_outcome, by_decision, by_sweeping}
 use Rattle.frames.proofs.Holding.{least_of, by_call}
 use Rattle.frames.specs.Serve.{pushed, decided, redeemed, read, swept}
-use Rattle.wire.specs.declared.kind.Kind.TheVariants.{Start, Push, Decide, Token, Resource, Sweep, Client, NoFrame}
+use Rattle.wire.specs.declared.kind.Kind.TheVariants.{Push, Decide, Token, Resource, Sweep}
 use Rattle.frames.proofs.call.call.Goals as goal
 
 pub push-requires : goal.push-requires
@@ -46,12 +46,3 @@ unfolding swept
 returns-in-Sweep c =
     let a = c.args in
     (search rules, by_call Sweep a.f.now a.ledger.now a.table.now c.in-Sweep.is (by_sweeping c.sweep.ensures c.write_swept.ensures.1))
-
-pub returns-in-Start : goal.returns-in-Start
-returns-in-Start c = (search rules, by_call Start _ _ _ c.in-Start.is refl)
-
-pub returns-in-Client : goal.returns-in-Client
-returns-in-Client c = (search rules, by_call Client _ _ _ c.in-Client.is refl)
-
-pub returns-in-NoFrame : goal.returns-in-NoFrame
-returns-in-NoFrame c = (search rules, by_call NoFrame _ _ _ c.in-NoFrame.is refl)
