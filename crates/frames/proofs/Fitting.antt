@@ -19,7 +19,7 @@ module _ (n m : ℕ) (ledger table out : List ℕ) where
   fitting_of u v l t o = rw (le-leb n ledger_most u, le-leb m table_most v, eq-eqb (length ledger) ledger_most l, eq-eqb (length table) table_most t, le-leb answer_line (length out) o)
 
   -- what is served, over the front of the output
-  answer_fits : (line : List ℕ) → fitting n m ledger table out ≡ true
+  pub answer_fits : (line : List ℕ) → fitting n m ledger table out ≡ true
       → answer line n m ledger table out ≡ say (place (serve_line line (desk_in n m ledger table)) ledger table) out
   unfolding answer
   answer_fits line e = rw e

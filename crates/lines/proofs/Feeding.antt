@@ -51,20 +51,17 @@ of_fits h e =
       listed = leb-true h.state.table table_most f.1;
     }
 
-pub fits_last : (h : Held) → length h.line ≡ line_kept → length h.ledger ≡ ledger_most → length h.table ≡ table_most
-    → h.state.line ≤ line_kept → h.state.ledger ≤ ledger_most → fits h ≡ leb h.state.table table_most
-unfolding fits
-fits_last h a b c d e =
-    rw (
-      eq-eqb (length h.line) line_kept a,
-      eq-eqb (length h.ledger) ledger_most b,
-      eq-eqb (length h.table) table_most c,
-      le-leb h.state.line line_kept d,
-      le-leb h.state.ledger ledger_most e,
-    )
-
 pub to_fits : (h : Held) → Fit h → fits h ≡ true
-to_fits h f = fits_last h f.line f.ledger f.table f.gathered f.used ∙ le-leb h.state.table table_most f.listed
+unfolding fits
+to_fits h f =
+    rw (
+      eq-eqb (length h.line) line_kept f.line,
+      eq-eqb (length h.ledger) ledger_most f.ledger,
+      eq-eqb (length h.table) table_most f.table,
+      le-leb h.state.line line_kept f.gathered,
+      le-leb h.state.ledger ledger_most f.used,
+      le-leb h.state.table table_most f.listed,
+    )
 
 -- ---- a line's end
 
