@@ -75,6 +75,7 @@ impl Bytes {
         out
     }
 
+    #[tactic(auto, using(crate::proofs::Answers::counted))]
     pub fn swept(s: Swept) -> Bytes
         ensures { result ≡ swept_bytes s }
     {
@@ -87,6 +88,7 @@ impl Bytes {
 }
 
 // A count in two bytes.
+#[tactic(auto, using(crate::proofs::Answers::short_digits))]
 fn short(n: usize) -> [u8; 2]
     ensures { result ≡ digits 2 n }
 {

@@ -20,6 +20,7 @@ use octets::part::{copy, cut, from};
 use wire::kind::{ClientId, Decide, Key, Kind, Push, Resource, Sweep, Token, Value};
 
 // The field of N bytes that begins at an index.
+#[tactic(auto, using(octets::proofs::Parts::laid_all, crate::proofs::Answers::cut_length))]
 fn field<const N: usize>(f: &[u8], at: usize) -> [u8; N]
     requires { at + N ≤ length f.now }
     ensures { result ≡ part f.now at N }

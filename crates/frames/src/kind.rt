@@ -33,6 +33,7 @@ fn start(f: &[u8], used: &mut Used, ledger: &mut [u8; Buffer::LEDGER]) -> Bytes
 }
 
 // A client's record, behind those in the front of the table's buffer.
+#[tactic(auto, using(crate::proofs::Holding::append_full, crate::proofs::Holding::append_done))]
 fn append(f: &[u8], used: &mut Used, table: &mut [u8; Buffer::TABLE]) -> Bytes
     requires { width clientRow ≤ length f.now }
     ensures table_after { filled used.new.table table.new result ≡ fill (appended f.now (take used.old.table table.old)) table.old }

@@ -15,6 +15,7 @@ use texts::hex::decode;
 use wire::answer::Said;
 
 // An answer's line, over the front of the output, and its length.
+#[tactic(auto, using(texts::proofs::Hexes::length_hex, crate::proofs::Lines::length_line))]
 fn write_line(out: &mut [u8], answer: &Bytes) -> usize
     requires { answer_line ≤ length out.old }
     ensures out_after { out.new ≡ laid (line_of answer.now) out.old }
