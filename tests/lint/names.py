@@ -48,12 +48,12 @@ def read(path):
 def in_rattle(text, name):
     text = without(RATTLE_COMMENT, text)
     kind, _, word = name.rpartition("::")
-    blocks = re.finditer(rf"\b(impl|enum)\s+{kind or '[A-Za-z]+'}\s*\{{", text)
+    blocks = re.finditer(rf"\b(impl|enum|trait)\s+{kind or '[A-Za-z]+'}\s*(?::[^{{;]*)?\{{", text)
     bodies = [(m.group(1), text[m.end():closing(text, m.end() - 1) - 1]) for m in blocks]
     if any(re.search(rf"^\s*{re.escape(word)}\b\s*(?:[({{,=]|$)", body, re.M) for block, body in bodies if block == "enum"):
         return True
-    places = [body for block, body in bodies if block == "impl"] if kind else [text]
-    return any(re.search(rf"\b(?:fn|struct|enum|const)\s+{re.escape(word)}\b", place) for place in places)
+    places = [body for block, body in bodies if block != "enum"] if kind else [text]
+    return any(re.search(rf"\b(?:fn|struct|enum|const|trait)\s+{re.escape(word)}\b", place) for place in places)
 
 
 def in_antt(text, name):

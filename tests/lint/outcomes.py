@@ -7,13 +7,15 @@
                                        a row, and let each definition that a contract reads through lose a field: each must be noticed
 
 A function is public where a caller of its crate can name it: `pub fn` in lib.rt or in a module that lib.rt makes public; and wherever it
-stands, where it is exported to C. Programs have none.
+stands, where it is exported to C; so is each function of a public trait of such a module. Programs have none.
 The forms, x being a buffer lent to be written:
   value   result ≡ ..                             slice   result.now ≡ ..
   bytes   x.new ≡ ..                              both    (result ≡ ..) × (x.new ≡ ..)
   fields  (result.a ≡ ..) × (result.b ≡ ..)       call    k result x.new ≡ .., k putting each of its arguments, or each field of one, into a record
 On the left stand all that is returned and every buffer lent to be written; on the right neither stands. A buffer as it was at entry may stand
 on both sides. There is no `requires`.
+In a trait a ghost member may stand before result, as in `value result ≡ ..`, where every impl gives it as the value itself: `λ n. n`, or the
+items of a type that is an array.
 A second `ensures` only narrows what is allowed, so one of them has to have a form, or the plain equations of all of them together.
 """
 import re
@@ -27,7 +29,8 @@ BEGIN, END = "<!-- functions -->", "<!-- end -->"
 EXIT = re.compile(r"(?<![\w.])(\w+)\.new\b")
 ENTRY = re.compile(r"(?<![\w.])(?!result\b)\w+\.(?:old|now)\b")  # known before the call, on whichever side it stands
 RESULT = re.compile(r"(?<![\w.])result(?!\w)")
-FUNCTION = re.compile(r'\bpub (extern "C" )?fn (\w+)\s*\(')
+FUNCTION = re.compile(r'\b(pub )?(extern "C" )?fn (\w+)\s*\(')
+TRAIT = re.compile(r"\bpub trait\s+(\w+)[^{;]*\{")
 IMPORT = re.compile(r"\buse\s+Rattle\.(?!std\b)(\w+)\.specs\.([\w.]+)\.\{([^}]*)\}")
 
 spoilt = {}  # the self-test's files
@@ -40,7 +43,10 @@ def read(path):
 def functions(text):
     """Each public or exported function: name with its type, whether it is exported, parameters, returned type, clauses, and where these stand."""
     impls = [(m.group(1), m.end(), closing(text, m.end() - 1)) for m in re.finditer(r"\bimpl\s+(\w+)\s*\{", text)]
+    traits = [(m.group(1), m.end(), closing(text, m.end() - 1)) for m in TRAIT.finditer(text)]
     for m in FUNCTION.finditer(text):
+        if not m.group(1) and not any(a <= m.start() < b for _, a, b in traits):
+            continue
         end = closing(text, m.end() - 1)
         at, clauses = end, {"requires": [], "ensures": []}
         returned = re.match(r"\s*->\s*([^\n{]+?)\s*(?=\n|\{|requires|ensures)", text[at:])
@@ -50,8 +56,8 @@ def functions(text):
             stop = closing(text, at + clause.end() - 1)
             clauses[clause.group(1)] += [text[at + clause.end():stop - 1]]
             at = stop
-        name = "::".join([kind for kind, a, b in impls if a <= m.start() < b] + [m.group(2)])
-        yield name, bool(m.group(1)), text[m.end():end - 1], returned.group(1) if returned else None, clauses, (begin, at)
+        name = "::".join([kind for kind, a, b in impls + traits if a <= m.start() < b] + [m.group(3)])
+        yield name, bool(m.group(2)), text[m.end():end - 1], returned.group(1) if returned else None, clauses, (begin, at)
 
 
 def crates():
@@ -152,10 +158,24 @@ def split_equation(side):
     return left.strip(), right.strip()
 
 
+def says_all(member, source):
+    """Each impl of the source gives the ghost member as the value itself, or the type whose items it is as an array."""
+    *kind, name = member.split(".")
+    given = re.findall(rf"\btype {kind[-1]} = (.*);" if kind else rf"\bghost {name} = \{{ ([^}}]*) \}}", source)
+    return bool(given) and all(re.fullmatch(r"\[u8; \d+\]" if kind else r"λ (\w+)\. \1", text) for text in given)
+
+
+def uncovered(part, source):
+    """The equation without the member before its result."""
+    told = re.match(r"([\w.]+) (?=result ≡ )", part)
+    return part[told.end():] if told and says_all(told.group(1), source) else part
+
+
 def form(clauses, lent, returned, path, source):
     """The form's name and the equation's right side of the first clause that has a form, or ValueError with what is wrong."""
     wrong = ValueError("has a requires" if clauses["requires"] else "has no ensures")
     said = [] if clauses["requires"] else [conjuncts(" ".join(clause.split())) for clause in clauses["ensures"]]
+    said = [[uncovered(part, source) for part in parts] for parts in said]
     plain = [part for parts in said for part in parts if re.match(r"result(?:\.\w+)? ≡ |\w+\.new ≡ ", part)]
     for parts in said + ([plain] if plain else []):
         try:
@@ -249,6 +269,10 @@ def faults(page):
                     yield f"{path}: {name} asks for something", path, text[:begin] + "\n    requires { 1 ≡ 1 }" + text[begin:]
                     row = next(line for line in page.split("\n") if line.startswith(f"| `{path}: {name}` |"))
                     yield f"{path}: {name} has no row", PAGE, page.replace(row + "\n", "")
+                for member in re.findall(r"(\w+) result ≡ ", " ".join(clauses["ensures"])):
+                    hides = re.sub(rf"(ghost {member} = \{{ λ \w+\. )\w+ ", r"\g<1>0 ", text, count=1)
+                    if hides != text:
+                        yield f"{path}: an impl's {member} hides the value", path, hides
             for added in ADDED if public else ADDED[1:]:
                 yield f"{path}: a function without a row", path, text + added
     heads = {origin(path, head) for crate in crates() for path, public in files(crate) for head in heads_in(path, public)}

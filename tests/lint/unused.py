@@ -6,13 +6,13 @@
   tests/lint/unused.py --drop-imports   write the sources without the imports that are not used; rt fmt then sets the lines
   tests/lint/unused.py --self-test      look at a made-up tree, where the answer is known
 
-Names are the definitions, laws, records, data types and rulesets of specs/ and proofs/, and the functions, structs, enums and constants
-of src/. A name is reached from a root, or from a name that is reached and has it in its text; its own text does not count, nor does an
+Names are the definitions, laws, records, data types and rulesets of specs/ and proofs/, and the functions, structs, enums, traits and
+constants of src/; a trait's function and those of its impls are one name. A name is reached from a root, or from a name that is reached and has it in its text; its own text does not count, nor does an
 import. Roots are `main`, exported functions, the answers and invariants of functions (of a type `goal.NAME`, goal being a function's Goals or
 Given; `NAME-spec` in a Proof.antt), what a page of docs/ or README cites or quotes, and a function that takes nothing and answers a constant, whose contract ties it to its definition. The table of docs/OUTCOMES.md is
 no root: it is written from the sources. Fields and variants are not looked at; where a page cites a field, it cites its record.
 A word stands for a name wherever it is no projection, so that a local variable can hide an unused name, and a finding is one.
-An import is unused where no text of its file has the name, a crate of crates.txt where no source of the other has it.
+An import is unused where no text of its file has the name, nor a function of a trait that is imported; a crate of crates.txt where no source of the other has it.
 """
 import argparse
 import contextlib
@@ -31,10 +31,11 @@ DECLARED = re.compile(r"(?:pub\s+)?(?:record|data|ruleset)\s+(\S+)")
 USE = re.compile(r"^(?:pub |ghost )*use\s+([^\s{;]+?)(?:\.\{([^}]*)\}|\s+as\s+(\S+?))?;?\s*$", re.M)
 RUST_USE = re.compile(r"^\s*(?:pub )?use\s+((?:\w+::)*)(?:\{([^}]*)\}|(\w+(?:\s+as\s+\w+)?));", re.M)
 CLAUSE = r"(?:requires|ensures|measure|invariant)\*?(?:\s+\w+)?\s*"
-RUST_NAME = re.compile(r"\b(?:fn|struct|enum|const)\s+(\w+)")
+RUST_NAME = re.compile(r"\b(?:fn|struct|enum|const|trait)\s+(\w+)")
+PRIMITIVE = re.compile(r"[iu](?:8|16|32|64|128|size)")
 # a function that takes nothing and answers a constant is there for its contract: it ties the constant to its definition
 TIE = re.compile(r"^fn \w+\(\) -> \w+\s+ensures(?:\s+\w+)?\s*\{[^{}]*\}\s*\{\s*\w+::[A-Z_]+\s*\}$")
-IMPL = re.compile(r"^impl\b(?:<[^>]*>)?\s+(\w+)[^{]*\{", re.M)
+IMPL = re.compile(r"^(?:impl\b(?:<[^>]*>)?|(?:pub )?trait)\s+(\w+)[^{]*\{", re.M)
 
 
 def words(text):
@@ -130,9 +131,10 @@ class File:
         impls = [(m.group(1), m.end() - 1, closing(text, m.end() - 1)) for m in IMPL.finditer(text)]
         for m in RUST_NAME.finditer(text):
             kind = "".join(f"{name}::" for name, a, b in impls if a <= m.start() < b)
-            self.names[kind + m.group(1)] = text[m.start():self.item_end(text, m.end())]
+            name, own = kind + m.group(1), text[m.start():self.item_end(text, m.end())]
+            self.names[name] = f"{self.names[name]}\n{own}" if name in self.names else own
             line = text[text.rfind("\n", 0, m.start()) + 1:m.start()]
-            if m.group(1) == "main" or "extern" in line or TIE.search(self.names[kind + m.group(1)]):
+            if m.group(1) == "main" or "extern" in line or TIE.search(own):
                 self.roots.add(kind + m.group(1))
 
     def take_ghosts(self, text):
@@ -176,15 +178,23 @@ class File:
                 found.add(self.imports[name])
         for path in re.findall(r"\b\w+(?:::\w+)+", text):
             found |= self.tree.rust_path(self, path.split("::"))
+            found |= self.tree.methods(path.split("::")[-1]) if PRIMITIVE.match(path) else set()
         for name in re.findall(r"\.(\w+)\(", text):
             found |= self.tree.methods(name)
         return found
+
+    def functions_of(self, local):
+        """The functions of a trait that is imported."""
+        path, name = self.imports[local] or (None, None)
+        home = self.tree.files.get(path)
+        known = home.names if home and home.names.get(name, "").startswith("trait ") else {}
+        return {known_name.rpartition("::")[2] for known_name in known if known_name.startswith(f"{name}::")}
 
     def unused_imports(self):
         text = "\n".join(self.names.values())
         plain, behind = words(text)
         rust = set(re.findall(r"\w+", text)) if self.path.endswith(".rt") else set()
-        unused = [local for local in self.imports if not has(plain, local) and local not in rust]
+        unused = [local for local in self.imports if not has(plain, local) and local not in rust and not self.functions_of(local) & rust]
         return unused + [alias for alias in self.aliases if alias not in {before for before, _ in behind}]
 
 
@@ -402,6 +412,7 @@ f-spec = returns
     "crates/a/src/lib.rt": """ghost use Rattle.a.specs.Defs.{used};
 pub mod m;
 use super::m::{g, idle};
+use super::n::Wide;
 pub struct T { x: u8 }
 pub enum Lone { A, B }
 impl T {
@@ -428,8 +439,10 @@ pub extern "C" fn out(t: T) -> usize
 }
 """,
     "crates/a/src/m.rt": "pub fn g() -> usize { m_only() }\nfn m_only() -> usize { 1 }\npub fn idle() -> usize { 1 }\n",
-    "crates/a/src/n.rt": "pub struct Far {}\nimpl Far {\n    pub const AT: usize = 1;\n    pub const OFF: usize = 1;\n}\npub fn far() -> usize { 1 }\n",
-    "crates/b/src/main.rt": "use a::m;\nfn main() { let x = m::g(); let y = a::n::far() + a::n::Far::AT + a::whole(); }\nfn beside() {}\n",
+    "crates/a/src/n.rt": "pub struct Far {}\nimpl Far {\n    pub const AT: usize = 1;\n    pub const OFF: usize = 1;\n}\npub fn far() -> usize { 1 }\n"
+    "pub trait Wide {\n    fn wide() -> usize;\n    fn spare(self) -> usize;\n}\nimpl Wide for u8 {\n    fn wide() -> usize { below() }\n"
+    "    fn spare(self) -> usize { 1 }\n}\nimpl Wide for u16 {\n    fn wide() -> usize { 2 }\n    fn spare(self) -> usize { 2 }\n}\nfn below() -> usize { 1 }\n",
+    "crates/b/src/main.rt": "use a::m;\nuse a::n::Wide;\nfn main() { let x = m::g(); let y = a::n::far() + a::n::Far::AT + a::whole() + u16::wide(); }\nfn beside() {}\n",
 }
 FOUND = [
     ("crates/a/specs/Cited.antt", "reaches landed"),
@@ -442,12 +455,14 @@ FOUND = [
     *(("crates/a/src/lib.rt", f"reaches {name}") for name in ("Lone", "T::LOOSE", "T::uncalled", "listed")),
     ("crates/a/src/m.rt", "reaches idle"),
     ("crates/a/src/n.rt", "reaches Far::OFF"),
+    ("crates/a/src/n.rt", "reaches Wide::spare"),
     ("crates/b/src/main.rt", "reaches beside"),
     ("crates/a/specs/Defs.antt", "imports T"),
     ("crates/a/proofs/Laws.antt", "imports own"),
     ("crates/a/proofs/Laws.antt", "imports fewer"),
     ("crates/a/proofs/f/Proof.antt", "imports needed"),
     ("crates/a/src/lib.rt", "imports idle"),
+    ("crates/a/src/lib.rt", "imports Wide"),
     ("crates.txt", "b lists c"),
 ]
 

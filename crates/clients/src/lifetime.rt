@@ -6,7 +6,7 @@ ghost use Rattle.clients.specs.Lifetime.{lifetime_of};
 ghost use Rattle.clients.specs.Sound.{lifetime_fits};
 
 use super::record::Field;
-use octets::number::read16;
+use octets::number::Number;
 use octets::part::cut;
 
 #[derive(Clone, Copy)]
@@ -35,7 +35,7 @@ impl Reference {
 fn said(c: &[u8]) -> u64
     ensures { result ≡ lifetime_said c.now }
 {
-    read16(cut(c, Field::LIFETIME, Field::LIFETIME_WIDTH)) as u64
+    u16::read(cut(c, Field::LIFETIME, Field::LIFETIME_WIDTH)) as u64
 }
 
 pub fn fits(c: &[u8]) -> bool

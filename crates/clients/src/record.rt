@@ -3,7 +3,7 @@ ghost use Rattle.std.specs.Prelude.{◌≡◌};
 ghost use Rattle.clients.specs.Limits.{client_size};
 ghost use Rattle.clients.specs.Fields.{clients, client, permitted};
 
-use octets::number::read32;
+use octets::number::Number;
 use octets::part::cut;
 
 #[derive(Clone, Copy)]
@@ -66,7 +66,7 @@ pub fn client_at(table: &[u8], k: usize) -> &[u8]
 pub fn permitted(table: &[u8], k: usize) -> u32
     ensures { result ≡ permitted (client table.now k) }
 {
-    read32(cut(
+    u32::read(cut(
         client_at(table, k),
         Field::PERMITTED,
         Field::PERMITTED_WIDTH,

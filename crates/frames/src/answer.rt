@@ -5,7 +5,7 @@ ghost use Rattle.wire.specs.Answers.{answer_most, number_bytes, swept_bytes, ans
 
 use desk::answer::{Answer, Decided, Swept};
 use forms::Redirect;
-use octets::number::bytes16;
+use octets::number::Number;
 use octets::part::{cut, put};
 use wire::answer::{Said, bytes};
 
@@ -92,5 +92,5 @@ impl Bytes {
 fn short(n: usize) -> [u8; 2]
     ensures { result ≡ digits 2 n }
 {
-    bytes16((n % 65536) as u16)
+    ((n % 65536) as u16).bytes()
 }

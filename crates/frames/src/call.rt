@@ -15,7 +15,7 @@ ghost use Rattle.frames.specs.Serve.{written, called};
 use super::answer::Bytes;
 use desk::answer::{Answer, Decided, Swept};
 use forms::{Challenge, Redirect};
-use octets::number::{read32, read64};
+use octets::number::Number;
 use octets::part::{copy, cut, from};
 use wire::kind::{ClientId, Decide, Key, Kind, Push, Resource, Sweep, Token, Value};
 
@@ -39,11 +39,11 @@ fn push(f: &[u8], ledger: &mut [u8], table: &[u8]) -> Answer
     let fresh = field::<{ Value::WIDTH }>(f, Push::FRESH);
     push::push(
         ledger,
-        read64(from(f, Push::TIME)),
+        u64::read(from(f, Push::TIME)),
         table,
         &client,
         &key,
-        read32(from(f, Push::SCOPE)),
+        u32::read(from(f, Push::SCOPE)),
         cut(f, Push::CHALLENGE, Challenge::LENGTH),
         from(f, Push::WIDTH),
         &fresh,
@@ -59,11 +59,11 @@ fn decide(f: &[u8], ledger: &mut [u8], out: &mut [u8]) -> Decided
     let fresh = field::<{ Value::WIDTH }>(f, Decide::FRESH);
     decide::decide(
         ledger,
-        read64(from(f, Decide::TIME)),
+        u64::read(from(f, Decide::TIME)),
         &reference,
         &client,
         f[Decide::YES] == 1,
-        read64(from(f, Decide::HOLDER)),
+        u64::read(from(f, Decide::HOLDER)),
         &fresh,
         out,
     )
@@ -80,7 +80,7 @@ fn token(f: &[u8], ledger: &mut [u8], table: &[u8]) -> Answer
     let fresh = field::<{ Value::WIDTH }>(f, Token::FRESH);
     token::token(
         ledger,
-        read64(from(f, Token::TIME)),
+        u64::read(from(f, Token::TIME)),
         table,
         &client,
         &key,
@@ -99,18 +99,18 @@ fn resource(f: &[u8], ledger: &mut [u8]) -> Answer
     let key = field::<{ Key::WIDTH }>(f, Resource::KEY);
     resource::resource(
         ledger,
-        read64(from(f, Resource::TIME)),
+        u64::read(from(f, Resource::TIME)),
         &token,
         &key,
-        read32(from(f, Resource::SCOPE)),
-        read64(from(f, Resource::HOLDER)),
+        u32::read(from(f, Resource::SCOPE)),
+        u64::read(from(f, Resource::HOLDER)),
     )
 }
 
 fn sweep(f: &[u8], ledger: &mut [u8]) -> Swept
     ensures { left result ledger.new ≡ sweep ledger.old (time f.now) }
 {
-    sweep::sweep(ledger, read64(from(f, Sweep::TIME)))
+    sweep::sweep(ledger, u64::read(from(f, Sweep::TIME)))
 }
 
 // The call that a frame's kind names, and its answer's bytes. Start and client name none, and do nothing.

@@ -5,7 +5,7 @@ ghost use Rattle.ledger.specs.Checks.{check_life};
 
 use super::field::Field;
 use super::limit::Ledger;
-use octets::number::{read32, read64};
+use octets::number::Number;
 use octets::part::{cut, from};
 
 // How many records there are.
@@ -48,25 +48,25 @@ pub fn redirect_length(r: &[u8]) -> u8
 pub fn scope(r: &[u8]) -> u32
     ensures { result ≡ scope r.now }
 {
-    read32(from(r, Field::SCOPE))
+    u32::read(from(r, Field::SCOPE))
 }
 
 pub fn grant(r: &[u8]) -> u64
     ensures { result ≡ grant r.now }
 {
-    read64(from(r, Field::GRANT))
+    u64::read(from(r, Field::GRANT))
 }
 
 pub fn expiry(r: &[u8]) -> u64
     ensures { result ≡ expiry r.now }
 {
-    read64(from(r, Field::EXPIRY))
+    u64::read(from(r, Field::EXPIRY))
 }
 
 pub fn holder(r: &[u8]) -> u64
     ensures { result ≡ holder r.now }
 {
-    read64(from(r, Field::HOLDER))
+    u64::read(from(r, Field::HOLDER))
 }
 
 pub fn client(r: &[u8]) -> &[u8]

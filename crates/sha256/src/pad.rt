@@ -2,7 +2,7 @@
 ghost use Rattle.std.specs.Prelude.{◌≡◌, ◌<◌};
 ghost use Rattle.sha256.specs.Pad.{pad, blocks, block, marked, window};
 
-use octets::number::bytes64;
+use octets::number::Number;
 use octets::part::{copy, from, put};
 
 // The 64 bytes of a message from index a on, zeros behind its end.
@@ -36,7 +36,7 @@ pub fn block(m: &[u8], k: usize) -> [u8; 64]
     if k + 1 < blocks(m) {
         return b;
     }
-    put(&mut b, 56, &bytes64((m.len() as u64) << 3));
+    put(&mut b, 56, &((m.len() as u64) << 3).bytes());
     b
 }
 

@@ -16,4 +16,4 @@ returns-then-k-blocks c =
 pub returns : goal.returns
 returns c =
     let p = c.args in
-    cc (block_last p.m.now p.k (omega arith) (omega arith) _ c.bytes64.ensures)
+    cc (block_last p.m.now p.k (omega arith) (omega arith) _ c.bytes.ensures)
