@@ -1,4 +1,4 @@
-// The bytes of an answer.
+// What an answer is in bytes.
 ghost use Rattle.std.specs.Prelude.{◌≡◌, ◌+◌, ◌≤◌, ◌++◌, [], List, ℕ, length, take};
 ghost use Rattle.octets.specs.Numbers.{digits};
 ghost use Rattle.wire.specs.Answers.{answer_most, number_bytes, swept_bytes, answer_bytes, decided_bytes};
@@ -9,7 +9,7 @@ use octets::number::Number;
 use octets::part::{cut, put};
 use wire::answer::{Said, bytes};
 
-// They lie at the front of a buffer that has room for the longest answer. A clause sees the bytes alone.
+// An answer's bytes, at the front of a buffer that has room for the longest. A clause sees the bytes alone.
 #[derive(Drop)]
 pub struct Bytes {
     buffer: [u8; Said::MOST],

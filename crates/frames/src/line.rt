@@ -45,6 +45,7 @@ fn serve_line(
 
 // A line of the input in its buffers: n bytes of the ledger's and m of the table's are in use. Where a buffer has not its size, a length in use is not within
 // it, or the output has no room for every answer's line, the line is not served, and nothing changes.
+// It promises so for all buffers and lengths, so they stay slices and numbers here; what fits goes on as arrays and `Used`.
 pub fn answer(
     line: &[u8],
     n: usize,

@@ -9,7 +9,7 @@ ghost use Rattle.lines.specs.Feed.{turned, putting, left, feed, finish};
 use frames::limit::{Answer, Buffer, Line};
 use frames::line::answer;
 
-// The lengths in use of the buffers of line, ledger and table.
+// The lengths in use of the buffers of line, ledger and table. `feed` and `finish` promise for all lengths and buffers, so they stay numbers and slices.
 #[derive(Clone, Copy)]
 pub struct State {
     pub line: usize,
@@ -65,6 +65,7 @@ impl Fed {
 }
 
 // A line's end: the line is served, its answer's line put behind what is filled, and the next line begins. How far the output is filled then is answered.
+// The buffers are lent one by one: a struct of `&mut`s would say in each contract that it still holds the same ones.
 fn end_line(
     state: &mut State,
     line: &[u8],

@@ -14,7 +14,7 @@ pub enum Kind {
     Client,
 }
 
-// Widths of fields, each with the kind it belongs to.
+// Widths, bytes and places of fields are associated constants of what they belong to (document 01), so each kind has a type beside `Kind`.
 #[derive(Clone, Copy)]
 pub struct ClientId {}
 
