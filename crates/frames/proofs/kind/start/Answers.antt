@@ -7,7 +7,7 @@ use Rattle.frames.proofs.kind.start.Goals as goal
 pub returns-then-slots-lt-LEAST-clause-ledger_after : goal.returns-then-slots-lt-LEAST-clause-ledger_after
 returns-then-slots-lt-LEAST-clause-ledger_after c =
     let a = c.args in
-    let q = c.number-then-slots-lt-LEAST.ensures ∙ ap number_bytes c.number.ensures in
+    let q = c.number.ensures ∙ ap number_bytes c.into.ensures in
     elim c.then-slots-lt-LEAST.branch [
       | then-slots-lt-LEAST-via-then-slots-lt-LEAST w ↦ start_few a.f.now a.ledger.now a.used.now.ledger (omega arith) c.from-slots.ensures w.if-slots-lt-LEAST.true refl q
       | then-slots-lt-LEAST-via-else-slots-lt-LEAST+then-slots-gt-MOST w ↦
