@@ -41,7 +41,7 @@ fn length_right(table: &[u8]) -> bool
 }
 
 #[tactic(auto, unfolding(crate::specs::Sound::sound_record, crate::specs::Sound::id_given, crate::specs::Sound::key_given, crate::specs::Sound::rest_zero))]
-fn sound_record(c: &[u8]) -> bool
+fn sound_record(c: &Record) -> bool
     ensures { result ≡ sound_record c.now }
 {
     !is_zero(cut(c, Field::ID, Field::ID_WIDTH))
@@ -53,7 +53,7 @@ fn sound_record(c: &[u8]) -> bool
 fn sound_records(entries: &[Record]) -> bool
     ensures { result ≡ every sound_record entries.now }
 {
-    entries.iter().all(|c| sound_record(c))
+    entries.iter().all(sound_record)
 }
 
 #[tactic(auto, unfolding(crate::specs::Sound::same_id))]

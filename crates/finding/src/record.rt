@@ -10,7 +10,7 @@ use ledger::state::{State, is_in};
 use octets::part::same;
 
 #[tactic(auto, unfolding(ledger::specs::Checks::is_free))]
-fn is_free(r: &[u8]) -> bool
+fn is_free(r: &Record) -> bool
     ensures { result ≡ is_free r.now }
 {
     is_in(r, State::Free)
@@ -18,28 +18,28 @@ fn is_free(r: &[u8]) -> bool
 
 // Whether the record has this value and this client id.
 #[tactic(auto, unfolding(ledger::specs::Checks::is_with))]
-fn is_with(r: &[u8], v: &[u8; 32], id: &[u8; 16]) -> bool
+fn is_with(r: &Record, v: &[u8; 32], id: &[u8; 16]) -> bool
     ensures { result ≡ is_with v.now id.now r.now }
 {
     same(record::value(r), v) && same(record::client(r), id)
 }
 
 #[tactic(auto, unfolding(ledger::specs::Checks::is_reference))]
-fn is_reference(r: &[u8], v: &[u8; 32], id: &[u8; 16]) -> bool
+fn is_reference(r: &Record, v: &[u8; 32], id: &[u8; 16]) -> bool
     ensures { result ≡ is_reference v.now id.now r.now }
 {
     is_in(r, State::Pushed) && is_with(r, v, id)
 }
 
 #[tactic(auto, unfolding(ledger::specs::Checks::is_code))]
-fn is_code(r: &[u8], v: &[u8; 32], id: &[u8; 16]) -> bool
+fn is_code(r: &Record, v: &[u8; 32], id: &[u8; 16]) -> bool
     ensures { result ≡ is_code v.now id.now r.now }
 {
     (is_in(r, State::Consented) || is_in(r, State::Redeemed)) && is_with(r, v, id)
 }
 
 #[tactic(auto, unfolding(ledger::specs::Checks::is_token))]
-fn is_token(r: &[u8], v: &[u8; 32]) -> bool
+fn is_token(r: &Record, v: &[u8; 32]) -> bool
     ensures { result ≡ is_token v.now r.now }
 {
     is_in(r, State::Redeemed) && same(record::token(r), v)
@@ -57,7 +57,7 @@ fn first<F: Fn(&Record) -> bool>(l: &[u8], is_wanted: F) -> Option<usize>
 pub fn free(l: &[u8]) -> Option<usize>
     ensures { result ≡ found is_free l.now }
 {
-    first(l, |r| is_free(r))
+    first(l, is_free)
 }
 
 // For check 10.
