@@ -19,7 +19,7 @@ fn words(text: &[u8]) -> &[u8]
     &text[..end.unwrap_or(text.len())]
 }
 
-// A line of what failed, as the caller names it, a colon and a space, and the words.
+// A line of what failed, as the caller names it, a colon and a space, and the words: printed as a whole, an error has its number behind them.
 pub fn fail<W: Write>(to: &mut W, what: &[u8], error: io::Error) -> io::Result<()>
     ensures { OnOk result ((words : List ℕ) × Appends (W.contents to.old) (W.contents to.new) (what.now ++ 58 ∷ 32 ∷ [] ++ words ++ 10 ∷ [])) }
 {
