@@ -1,7 +1,7 @@
 // A client record: where its fields are, and what is read off record k of a table. Past the last record there are no bytes.
 ghost use Rattle.std.specs.Prelude.{◌≡◌};
 ghost use Rattle.clients.specs.Limits.{client_size};
-ghost use Rattle.clients.specs.Fields.{clients, client, permitted};
+ghost use Rattle.clients.specs.Fields.{clients, client, entries, permitted};
 
 use octets::number::Number;
 use octets::part::cut;
@@ -50,6 +50,15 @@ pub fn clients(table: &[u8]) -> usize
     ensures { result ≡ clients table.now }
 {
     table.len() / Client::SIZE
+}
+
+pub(crate) type Record = [u8; Client::SIZE];
+
+// The whole records, in table order.
+pub(crate) fn entries(table: &[u8]) -> &[Record]
+    ensures { result.now ≡ entries table.now }
+{
+    table.as_chunks::<{ Client::SIZE }>().0
 }
 
 // Record k. The place is computed only where it cannot pass the end.

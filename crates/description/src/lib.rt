@@ -4,7 +4,7 @@
 
 ghost use Rattle.std.specs.Prelude.{◌≡◌, ◌+◌, ◌*◌, ◌<◌, ◌^◌, leb, length};
 ghost use Rattle.octets.specs.Parts.{put};
-ghost use Rattle.description.specs.Description.{described, live_text, inactive_text};
+ghost use Rattle.description.specs.Description.{telling, live_text, inactive_text};
 ghost use Rattle.description.specs.Apart.{live_most, widest_most};
 ghost use Rattle.description.specs.Writing.{written, written_over};
 
@@ -14,10 +14,17 @@ use writer::Writer;
 mod scope;
 mod writer;
 
+// What a live token is described by, lent.
 #[derive(Clone, Copy)]
-pub struct Description {}
+pub struct Description<'a> {
+    pub client: &'a [u8],
+    pub holder: u64,
+    pub expiry: u64,
+    pub scope: u32,
+    pub key: &'a [u8],
+}
 
-impl Description {
+impl<'a> Description<'a> {
     // The longest text of a sound record; most and widest say the same numbers as the definitions.
     pub const MOST: usize = 304;
 
@@ -38,21 +45,21 @@ impl Description {
 }
 
 // The live text over the front of the output, as far as there is room; answers how long it is.
-fn spell(out: &mut [u8], client: &[u8], holder: u64, expiry: u64, scope: u32, key: &[u8]) -> usize
-    requires { 2 * length client.now + length key.now < 2 ^ 63 }
-    ensures { (result ≡ length (live_text (described client.now holder expiry scope key.now))) × (out.new ≡ put out.old 0 (live_text (described client.now holder expiry scope key.now))) }
+fn spell(out: &mut [u8], d: Description) -> usize
+    requires { 2 * length d.client.now + length d.key.now < 2 ^ 63 }
+    ensures { (result ≡ length (live_text (telling d.entry))) × (out.new ≡ put out.old 0 (live_text (telling d.entry))) }
 {
     let mut writer = Writer { out, at: 0 };
     writer.text(b"{\"active\":true,\"client_id\":\"");
-    writer.hex(client);
+    writer.hex(d.client);
     writer.text(b"\",\"sub\":\"");
-    writer.decimal(holder);
+    writer.decimal(d.holder);
     writer.text(b"\",\"exp\":");
-    writer.decimal(expiry);
+    writer.decimal(d.expiry);
     writer.text(b",\"scope\":\"");
-    writer.scope(scope);
+    writer.scope(d.scope);
     writer.text(b"\",\"cnf\":{\"x5t#S256\":\"");
-    writer.base64url(key);
+    writer.base64url(d.key);
     writer.text(b"\"}}");
     writer.at
 }
@@ -65,24 +72,17 @@ fn has_room(room: usize, client: usize, key: usize) -> bool
     2 * client <= room && key <= room - 2 * client
 }
 
-pub fn live(
-    out: &mut [u8],
-    client: &[u8],
-    holder: u64,
-    expiry: u64,
-    scope: u32,
-    key: &[u8],
-) -> Option<usize>
-    ensures { (result ≡ written (live_text (described client.now holder expiry scope key.now)) out.old) × (out.new ≡ written_over (live_text (described client.now holder expiry scope key.now)) out.old) }
+pub fn live(out: &mut [u8], d: Description) -> Option<usize>
+    ensures { (result ≡ written (live_text (telling d.entry)) out.old) × (out.new ≡ written_over (live_text (telling d.entry)) out.old) }
 {
-    if !has_room(out.len(), client.len(), key.len()) {
+    if !has_room(out.len(), d.client.len(), d.key.len()) {
         return None;
     }
-    let n = spell(&mut [], client, holder, expiry, scope, key);
+    let n = spell(&mut [], d);
     if out.len() < n {
         return None;
     }
-    spell(out, client, holder, expiry, scope, key);
+    spell(out, d);
     Some(n)
 }
 

@@ -7,6 +7,7 @@ ghost use Rattle.description.specs.Writing.{written, written_over};
 ghost use Rattle.desk.specs.Outcome.{left_with};
 ghost use Rattle.desk.specs.Introspect.{text_for, introspect};
 
+use description::Description;
 use desk::answer::{Introspected, Refusal};
 use ledger::clock::Timing;
 use ledger::record::{Life, at, bound_key, check_life, client, expiry, holder, scope};
@@ -23,14 +24,14 @@ fn describe(ledger: &[u8], time: u64, token: &[u8; 32], output: &mut [u8]) -> Op
     let Life::Alive = check_life(r, time) else {
         return description::inactive(output);
     };
-    description::live(
-        output,
-        client(r),
-        holder(r),
-        expiry(r),
-        scope(r),
-        bound_key(r),
-    )
+    let described = Description {
+        client: client(r),
+        holder: holder(r),
+        expiry: expiry(r),
+        scope: scope(r),
+        key: bound_key(r),
+    };
+    description::live(output, described)
 }
 
 pub fn introspect(ledger: &[u8], time: u64, token: &[u8; 32], output: &mut [u8]) -> Introspected

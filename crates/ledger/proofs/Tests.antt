@@ -1,8 +1,9 @@
 -- What a check's answer says of its condition, in the words of the table "Numbers returned".
-use Rattle.std.proofs.Common.{◌≡◌, ℕ, Bool, true, false, cond, List, sym, refl, ap, ◌∙◌, Option, Some}
+use Rattle.std.proofs.Common.{◌≡◌, ℕ, Bool, true, false, cond, List, sym, refl, ap, ◌∙◌, position, Option, Some}
 use Rattle.std.specs.Option.{is_some}
 use Rattle.octets.proofs.Tests.{some_told, some_is}
 use Rattle.octets.specs.Lists.{some, place}
+use Rattle.octets.proofs.Lists.{position_is}
 use Rattle.ledger.specs.Fields.{records}
 use Rattle.ledger.specs.Sound.{sized, sound}
 use Rattle.ledger.specs.Checks.{
@@ -71,6 +72,11 @@ value_told l v a e = told is_taken Taken New refl refl (taken l v) a e
 pub life_told : (r : List ℕ) (t : ℕ) (a : Life) → check_life r t ≡ a → expired t r ≡ is_expired a
 unfolding check_life
 life_told r t a e = told is_expired Expired Alive refl refl (expired t r) a e
+
+-- the first record, as std's position answers it
+pub found_is : (q : List ℕ → Bool) (l : List ℕ) → position q (records l) ≡ found q l
+unfolding found
+found_is q l = position_is q (records l)
 
 pub found_told : (q : List ℕ → Bool) (l : List ℕ) (a : Option ℕ) → found q l ≡ a → some q (records l) ≡ is_some a
 unfolding found

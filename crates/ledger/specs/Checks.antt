@@ -14,8 +14,6 @@ use Rattle.ledger.specs.declared.clock.Timing.{Timing}
 use Rattle.ledger.specs.declared.clock.Timing.TheVariants.{Timely, Untimely}
 use Rattle.ledger.specs.declared.pool.Value.{Value}
 use Rattle.ledger.specs.declared.pool.Value.TheVariants.{New, Taken}
-use Rattle.ledger.specs.declared.find.Kind.{Kind}
-use Rattle.ledger.specs.declared.find.Kind.TheVariants.{Vacant, Reference, Code, Token}
 use Rattle.ledger.specs.declared.record.Life.{Life}
 use Rattle.ledger.specs.declared.record.Life.TheVariants.{Alive, Expired}
 
@@ -71,10 +69,3 @@ is_code v c r = (in_state Consented r || in_state Redeemed r) && is_with v c r
 -- 17: "no record in state 3 with this token"
 unfoldable pub is_token : List ℕ → List ℕ → Bool
 is_token v r = in_state Redeemed r && same (token r) v
-
--- the record that a call asks for, by its kind
-unfoldable pub wanted : Kind → List ℕ → List ℕ → List ℕ → Bool
-wanted Vacant v c r = is_free r
-wanted Reference v c r = is_reference v c r
-wanted Code v c r = is_code v c r
-wanted Token v c r = is_token v r

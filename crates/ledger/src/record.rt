@@ -1,6 +1,6 @@
 // A record of the ledger, and its fields, for any slice.
 ghost use Rattle.std.specs.Prelude.{◌≡◌, ◌%◌, ◌^◌};
-ghost use Rattle.ledger.specs.Fields.{address, rec, slots, redirect_length, scope, grant, expiry, holder, client, challenge, value, token, bound_key, redirect_field};
+ghost use Rattle.ledger.specs.Fields.{address, rec, slots, records, redirect_length, scope, grant, expiry, holder, client, challenge, value, token, bound_key, redirect_field};
 ghost use Rattle.ledger.specs.Checks.{check_life};
 
 use super::field::Field;
@@ -17,6 +17,15 @@ pub fn slots(l: &[u8]) -> usize
         return 0;
     }
     (n - Ledger::HEAD) / Ledger::RECORD
+}
+
+pub type Record = [u8; Ledger::RECORD];
+
+// The records, in ledger order.
+pub fn records(l: &[u8]) -> &[Record]
+    ensures { result.now ≡ records l.now }
+{
+    from(l, Ledger::HEAD).as_chunks::<{ Ledger::RECORD }>().0
 }
 
 // Where record k begins. Any k may be asked: one that no ledger reaches wraps, as machine numbers do.

@@ -12,9 +12,6 @@ pub both : (a b : Bool) → (a && b) ≡ true → (a ≡ true) × (b ≡ true)
 both true b e = (refl, e)
 both false b e = absurd (false≢true e)
 
-pub and_l : (a b : Bool) → (a && b) ≡ true → a ≡ true
-and_l a b e = (both a b e).0
-
 pub both_true : (a b : Bool) → a ≡ true → b ≡ true → (a && b) ≡ true
 both_true a b e f = rw (e, f)
 

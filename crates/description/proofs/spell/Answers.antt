@@ -1,7 +1,7 @@
 use Rattle.std.proofs.Common.{refl, rules, ◌∙◌}
 use Rattle.description.proofs.Behind.{then, at_front}
 use Rattle.description.proofs.Lengths.{live_pieces}
-use Rattle.description.specs.Description.{described}
+use Rattle.description.specs.Description.{telling}
 use Rattle.description.proofs.spell.Goals as goal
 
 pub returns : goal.returns
@@ -17,4 +17,4 @@ returns c =
     (then c.decimal-2.ensures.wrote
     (then c.text-4.ensures (then c.scope.ensures.wrote (then c.text-5.ensures (then c.base64url.ensures.wrote c.text-6.ensures))))))))))
     in
-    rw (live_pieces (described a.client.now a.holder a.expiry a.scope a.key.now)) (t.0, search rules ∙ t.1)
+    rw (live_pieces (telling a.d)) (t.0, search rules ∙ t.1)

@@ -1,8 +1,0 @@
-// The kinds of record that a call asks for.
-#[derive(Clone, Copy)]
-pub enum Kind {
-    Vacant,
-    Reference,
-    Code,
-    Token,
-}
