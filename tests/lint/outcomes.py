@@ -4,10 +4,12 @@
   tests/lint/outcomes.py check         one test a function: its form, and its row on the page
   tests/lint/outcomes.py write         write the table of the page anew
   tests/lint/outcomes.py --self-test   spoil each function in turn (contract dropped, `requires` added, row dropped), add a function without
-                                       a row, and let each definition that a contract reads through lose a field: each must be noticed
+                                       a row, let each definition that a contract reads through lose a field, and look at contracts that leave
+                                       something open: each must be noticed
 
-A function is public where a caller of its crate can name it: `pub fn` in lib.rt or in a module that lib.rt makes public; and wherever it
-stands, where it is exported to C; so is each function of a public trait of such a module. Programs have none.
+A function is public where a caller of its crate can name it: `pub fn` in lib.rt or in a module that lib.rt makes public, each function of a
+public trait there, and `from` of an `impl From` there, whose contract is from_gives; and wherever it stands, where it is exported to C. Programs
+have none.
 The forms, x being a buffer lent to be written:
   value   result ≡ ..                             slice   result.now ≡ ..
   bytes   x.new ≡ ..                              both    (result ≡ ..) × (x.new ≡ ..)
@@ -27,10 +29,15 @@ from sources import RATTLE_COMMENT, TOP, closing, tally, without  # noqa: E402
 PAGE = "docs/OUTCOMES.md"
 BEGIN, END = "<!-- functions -->", "<!-- end -->"
 EXIT = re.compile(r"(?<![\w.])(\w+)\.new\b")
-ENTRY = re.compile(r"(?<![\w.])(?!result\b)\w+\.(?:old|now)\b")  # known before the call, on whichever side it stands
+ENTRY = re.compile(r"(?<![\w.])(?!result\b)\w+\.(?:old|now|entry)\b")  # known before the call, on whichever side it stands
 RESULT = re.compile(r"(?<![\w.])result(?!\w)")
-FUNCTION = re.compile(r'\b(pub )?(extern "C" )?fn (\w+)\s*\(')
+GENERICS = r"(?:<(?:->|[^<>]|<[^<>]*>)*>)?"
+FUNCTION = re.compile(rf'\b(pub )?(extern "C" )?fn (\w+){GENERICS}\s*\(')
+IMPL = re.compile(rf"\bimpl{GENERICS}\s+(\w+){GENERICS}\s*\{{")
 TRAIT = re.compile(r"\bpub trait\s+(\w+)[^{;]*\{")
+FROM = re.compile(r"\bimpl From<(?P<value>[^{]+)> for (?P<kind>\w+)\s*\{")
+GIVES = re.compile(r"ghost from_gives = (?P<open>\{) λ (?P<value>\w+) (?P<result>\w+)\. ")
+LENT = re.compile(r"(\w+)\s*:\s*&(?:'\w+ )?mut\b|&(?:'\w+ )?mut (self)\b")
 IMPORT = re.compile(r"\buse\s+Rattle\.(?!std\b)(\w+)\.specs\.([\w.]+)\.\{([^}]*)\}")
 
 spoilt = {}  # the self-test's files
@@ -42,7 +49,7 @@ def read(path):
 
 def functions(text):
     """Each public or exported function: name with its type, whether it is exported, parameters, returned type, clauses, and where these stand."""
-    impls = [(m.group(1), m.end(), closing(text, m.end() - 1)) for m in re.finditer(r"\bimpl\s+(\w+)\s*\{", text)]
+    impls = [(m.group(1), m.end(), closing(text, m.end() - 1)) for m in IMPL.finditer(text)]
     traits = [(m.group(1), m.end(), closing(text, m.end() - 1)) for m in TRAIT.finditer(text)]
     for m in FUNCTION.finditer(text):
         if not m.group(1) and not any(a <= m.start() < b for _, a, b in traits):
@@ -58,6 +65,19 @@ def functions(text):
             at = stop
         name = "::".join([kind for kind, a, b in impls + traits if a <= m.start() < b] + [m.group(3)])
         yield name, bool(m.group(2)), text[m.end():end - 1], returned.group(1) if returned else None, clauses, (begin, at)
+    yield from conversions(text)
+
+
+def conversions(text):
+    """Each `impl From`, as the function that it is: what from_gives says of the value and the result is its contract."""
+    for m in FROM.finditer(text):
+        end = closing(text, m.end() - 1)
+        gives = GIVES.search(text, m.end(), end)
+        begin = gives.start() if gives else m.end()
+        stop = closing(text, gives.start("open")) if gives else begin
+        said = [re.sub(rf"(?<![\w.]){gives['result']}(?!\w)", "result", text[gives.end():stop - 1])] if gives else []
+        asked = re.findall(r"\brequires\b", text[m.end():end])
+        yield f"{m['kind']}::from", False, f"{gives['value']}: {m['value']}" if gives else "", m["kind"], {"requires": asked, "ensures": said}, (begin, stop)
 
 
 def crates():
@@ -130,7 +150,8 @@ def width(path, name):
 
 def fields(source, name):
     """The fields of a struct that the source declares, or takes from another module of its crate."""
-    found = re.search(rf"\bpub struct {re.escape(name)}\s*\{{([^}}]*)\}}", source) if name else None
+    plain = re.sub(r"\bghost \w+: \{[^}]*\},?", "", source)  # a ghost field is not returned
+    found = re.search(rf"\bpub struct {re.escape(name)}\s*\{{([^}}]*)\}}", plain) if name else None
     return set(re.findall(r"(\w+)\s*:", found.group(1))) if found else set()
 
 
@@ -218,7 +239,7 @@ def rows_of(path, public):
         if not (public or exported):
             continue
         try:
-            lent = set(re.findall(r"(\w+)\s*:\s*&(?:'\w+ )?mut\b", parameters))
+            lent = {name or receiver for name, receiver in LENT.findall(parameters)}
             kind, right = form(clauses, lent, returned, path, with_used(path, source))
             yield f"| {where} | {kind} | `{right}` |", None
         except ValueError as wrong:
@@ -252,8 +273,22 @@ def write(page):
 
 ADDED = [
     'pub fn another(x: u8) -> u8\n    ensures { result ≡ x }\n{\n    x\n}\n',
+    'pub fn another<F: Fn(&[u8]) -> u8>(f: F, x: u8) -> u8\n    ensures { result ≡ x }\n{\n    x\n}\n',
+    "impl<'a> Another<'a> {\n    pub fn another(x: u8) -> u8\n        ensures { result ≡ x }\n    {\n        x\n    }\n}\n",
+    'pub trait Another {\n    fn another(x: u8) -> u8\n        ensures { result ≡ x };\n}\n',
+    'impl From<u8> for Another {\n    ghost from_gives = { λ x another. another ≡ x };\n\n    fn from(x: u8) -> Another {\n        x\n    }\n}\n',
+]
+EXPORTED = [
     '#[unsafe(no_mangle)]\npub extern "C" fn another(x: u8) -> u8\n    ensures { result ≡ x }\n{\n    x\n}\n',
     '#[unsafe(no_mangle)]\npub extern "C" fn another(x: u8) -> u8 {\n    x\n}\n',
+]
+# What has no form, whatever the page says.
+UNSAID = [
+    ("a receiver's bytes", 'impl Another {\n    pub fn another(&mut self) -> u8\n        ensures { result ≡ 0 }\n    {\n        0\n    }\n}\n'),
+    ("a generic function's result", 'pub fn another<F: Fn(u8) -> u8>(f: F) -> u8 {\n    f(0)\n}\n'),
+    ("a trait function's result", 'pub trait Another {\n    fn another(x: u8) -> u8\n        requires { x ≡ 0 }\n        ensures { result ≡ x };\n}\n'),
+    ("a conversion's result", 'impl From<u8> for Another {\n    ghost from_gives = { λ x another. another < x };\n\n    fn from(x: u8) -> Another {\n        x\n    }\n}\n'),
+    ("a result of another module's conversion", 'impl From<u8> for Another {\n    fn from(x: u8) -> Another {\n        x\n    }\n}\n'),
 ]
 
 
@@ -273,7 +308,7 @@ def faults(page):
                     hides = re.sub(rf"(ghost {member} = \{{ λ \w+\. )\w+ ", r"\g<1>0 ", text, count=1)
                     if hides != text:
                         yield f"{path}: an impl's {member} hides the value", path, hides
-            for added in ADDED if public else ADDED[1:]:
+            for added in (ADDED if public else []) + EXPORTED:
                 yield f"{path}: a function without a row", path, text + added
     heads = {origin(path, head) for crate in crates() for path, public in files(crate) for head in heads_in(path, public)}
     for path, name in sorted(heads):
@@ -315,6 +350,13 @@ def self_test():
         spoilt.clear()
         failures += [] if noticed else [f"was not noticed: {said}"]
         passed += bool(noticed)
+    path = next(path for crate in crates() for path, public in files(crate) if public)
+    for said, text in UNSAID:
+        spoilt[path] = read(path) + text
+        noticed = any(wrong for where, wrong in rows_of(path, True) if re.search(r"[ :]another`|Another::", where))
+        spoilt.clear()
+        failures += [] if noticed else [f"{said} is not settled, and this was not noticed"]
+        passed += noticed
     return tally(passed, failures)
 
 
