@@ -49,7 +49,6 @@ OWN = {
     ("crates/history/specs/Example.antt", 90): "0x5A, a Z in a challenge",
     ("sha256", 64): "the bytes of a block, the words of a schedule, the rounds",
     ("sha256", 128): "0x80, the mark behind a message",
-    ("sha256", 256): "the values of a byte",
     ("texts", 64): "the letters of base64url",
     ("texts", 256): "the values of a byte",
     ("crates/ledger/specs/Fields.antt", 128): "where the value ends and the token begins",

@@ -5,8 +5,9 @@
   tests/lint/names.py --self-test   spoil the pages in one way at a time: each must be noticed
 
 - A citation is `path/to/file: name, name`, in backticks; each name counts as one test. A path alone, `crates/NAME/src`, must exist.
-  In .rt a name is a function, struct, enum, constant or case (`Type::name` is a name of that type's file); in .antt a definition, law,
-  record, field, data type or ruleset; in other files a string that occurs. Names, no lines: `line 12` behind a citation is a finding.
+  In .rt a name is a function, struct, enum, trait, constant or case (`Type::name` is a name of that type's file, in an impl of a trait too:
+  `u8::from`); in .antt a definition, law, record, field, data type or ruleset; in other files a string that occurs. Names, no lines: `line 12`
+  behind a citation is a finding.
 - A block fenced as ```antt path``` stands in that file, word for word.
 - A link, [text](path#heading), leads to a file or folder, and to a heading of that page.
 - Every row of docs/PROMISES.md is at most LONGEST characters long, has all its cells, is held in one of the ways of HELD, and cites what holds it, or sends the reader to a
@@ -48,12 +49,12 @@ def read(path):
 def in_rattle(text, name):
     text = without(RATTLE_COMMENT, text)
     kind, _, word = name.rpartition("::")
-    blocks = re.finditer(rf"\b(impl|enum)\s+{kind or '[A-Za-z]+'}\s*\{{", text)
+    blocks = re.finditer(rf"\b(impl|enum|trait)\b(?:<[^>]*>)?\s+(?:[^{{;]+ for )?{kind or '[A-Za-z]+'}(?:<[^>{{]*>)?\s*(?::[^{{;]*)?\{{", text)
     bodies = [(m.group(1), text[m.end():closing(text, m.end() - 1) - 1]) for m in blocks]
     if any(re.search(rf"^\s*{re.escape(word)}\b\s*(?:[({{,=]|$)", body, re.M) for block, body in bodies if block == "enum"):
         return True
-    places = [body for block, body in bodies if block == "impl"] if kind else [text]
-    return any(re.search(rf"\b(?:fn|struct|enum|const)\s+{re.escape(word)}\b", place) for place in places)
+    places = [body for block, body in bodies if block != "enum"] if kind else [text]
+    return any(re.search(rf"\b(?:fn|struct|enum|const|trait)\s+{re.escape(word)}\b", place) for place in places)
 
 
 def in_antt(text, name):

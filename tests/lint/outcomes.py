@@ -4,16 +4,20 @@
   tests/lint/outcomes.py check         one test a function: its form, and its row on the page
   tests/lint/outcomes.py write         write the table of the page anew
   tests/lint/outcomes.py --self-test   spoil each function in turn (contract dropped, `requires` added, row dropped), add a function without
-                                       a row, and let each definition that a contract reads through lose a field: each must be noticed
+                                       a row, let each definition that a contract reads through lose a field, and look at contracts that leave
+                                       something open: each must be noticed
 
-A function is public where a caller of its crate can name it: `pub fn` in lib.rt or in a module that lib.rt makes public; and wherever it
-stands, where it is exported to C. Programs have none.
+A function is public where a caller of its crate can name it: `pub fn` in lib.rt or in a module that lib.rt makes public, each function of a
+public trait there, and `from` of an `impl From` there, whose contract is from_gives; and wherever it stands, where it is exported to C. Programs
+have none.
 The forms, x being a buffer lent to be written:
   value   result ≡ ..                             slice   result.now ≡ ..
   bytes   x.new ≡ ..                              both    (result ≡ ..) × (x.new ≡ ..)
   fields  (result.a ≡ ..) × (result.b ≡ ..)       call    k result x.new ≡ .., k putting each of its arguments, or each field of one, into a record
 On the left stand all that is returned and every buffer lent to be written; on the right neither stands. A buffer as it was at entry may stand
 on both sides. There is no `requires`.
+In a trait a ghost member may stand before result, as in `value result ≡ ..`, where every impl gives it as the value itself: `λ n. n`, or the
+items of a type that is an array.
 A second `ensures` only narrows what is allowed, so one of them has to have a form, or the plain equations of all of them together.
 """
 import re
@@ -25,9 +29,15 @@ from sources import RATTLE_COMMENT, TOP, closing, tally, without  # noqa: E402
 PAGE = "docs/OUTCOMES.md"
 BEGIN, END = "<!-- functions -->", "<!-- end -->"
 EXIT = re.compile(r"(?<![\w.])(\w+)\.new\b")
-ENTRY = re.compile(r"(?<![\w.])(?!result\b)\w+\.(?:old|now)\b")  # known before the call, on whichever side it stands
+ENTRY = re.compile(r"(?<![\w.])(?!result\b)\w+\.(?:old|now|entry)\b")  # known before the call, on whichever side it stands
 RESULT = re.compile(r"(?<![\w.])result(?!\w)")
-FUNCTION = re.compile(r'\bpub (extern "C" )?fn (\w+)\s*\(')
+GENERICS = r"(?:<(?:->|[^<>]|<[^<>]*>)*>)?"
+FUNCTION = re.compile(rf'\b(pub )?(extern "C" )?fn (\w+){GENERICS}\s*\(')
+IMPL = re.compile(rf"\bimpl{GENERICS}\s+(\w+){GENERICS}\s*\{{")
+TRAIT = re.compile(r"\bpub trait\s+(\w+)[^{;]*\{")
+FROM = re.compile(r"\bimpl From<(?P<value>[^{]+)> for (?P<kind>\w+)\s*\{")
+GIVES = re.compile(r"ghost from_gives = (?P<open>\{) λ (?P<value>\w+) (?P<result>\w+)\. ")
+LENT = re.compile(r"(\w+)\s*:\s*&(?:'\w+ )?mut\b|&(?:'\w+ )?mut (self)\b")
 IMPORT = re.compile(r"\buse\s+Rattle\.(?!std\b)(\w+)\.specs\.([\w.]+)\.\{([^}]*)\}")
 
 spoilt = {}  # the self-test's files
@@ -39,8 +49,11 @@ def read(path):
 
 def functions(text):
     """Each public or exported function: name with its type, whether it is exported, parameters, returned type, clauses, and where these stand."""
-    impls = [(m.group(1), m.end(), closing(text, m.end() - 1)) for m in re.finditer(r"\bimpl\s+(\w+)\s*\{", text)]
+    impls = [(m.group(1), m.end(), closing(text, m.end() - 1)) for m in IMPL.finditer(text)]
+    traits = [(m.group(1), m.end(), closing(text, m.end() - 1)) for m in TRAIT.finditer(text)]
     for m in FUNCTION.finditer(text):
+        if not m.group(1) and not any(a <= m.start() < b for _, a, b in traits):
+            continue
         end = closing(text, m.end() - 1)
         at, clauses = end, {"requires": [], "ensures": []}
         returned = re.match(r"\s*->\s*([^\n{]+?)\s*(?=\n|\{|requires|ensures)", text[at:])
@@ -50,8 +63,21 @@ def functions(text):
             stop = closing(text, at + clause.end() - 1)
             clauses[clause.group(1)] += [text[at + clause.end():stop - 1]]
             at = stop
-        name = "::".join([kind for kind, a, b in impls if a <= m.start() < b] + [m.group(2)])
-        yield name, bool(m.group(1)), text[m.end():end - 1], returned.group(1) if returned else None, clauses, (begin, at)
+        name = "::".join([kind for kind, a, b in impls + traits if a <= m.start() < b] + [m.group(3)])
+        yield name, bool(m.group(2)), text[m.end():end - 1], returned.group(1) if returned else None, clauses, (begin, at)
+    yield from conversions(text)
+
+
+def conversions(text):
+    """Each `impl From`, as the function that it is: what from_gives says of the value and the result is its contract."""
+    for m in FROM.finditer(text):
+        end = closing(text, m.end() - 1)
+        gives = GIVES.search(text, m.end(), end)
+        begin = gives.start() if gives else m.end()
+        stop = closing(text, gives.start("open")) if gives else begin
+        said = [re.sub(rf"(?<![\w.]){gives['result']}(?!\w)", "result", text[gives.end():stop - 1])] if gives else []
+        asked = re.findall(r"\brequires\b", text[m.end():end])
+        yield f"{m['kind']}::from", False, f"{gives['value']}: {m['value']}" if gives else "", m["kind"], {"requires": asked, "ensures": said}, (begin, stop)
 
 
 def crates():
@@ -124,7 +150,8 @@ def width(path, name):
 
 def fields(source, name):
     """The fields of a struct that the source declares, or takes from another module of its crate."""
-    found = re.search(rf"\bpub struct {re.escape(name)}\s*\{{([^}}]*)\}}", source) if name else None
+    plain = re.sub(r"\bghost \w+: \{[^}]*\},?", "", source)  # a ghost field is not returned
+    found = re.search(rf"\bpub struct {re.escape(name)}\s*\{{([^}}]*)\}}", plain) if name else None
     return set(re.findall(r"(\w+)\s*:", found.group(1))) if found else set()
 
 
@@ -152,10 +179,24 @@ def split_equation(side):
     return left.strip(), right.strip()
 
 
+def says_all(member, source):
+    """Each impl of the source gives the ghost member as the value itself, or the type whose items it is as an array."""
+    *kind, name = member.split(".")
+    given = re.findall(rf"\btype {kind[-1]} = (.*);" if kind else rf"\bghost {name} = \{{ ([^}}]*) \}}", source)
+    return bool(given) and all(re.fullmatch(r"\[u8; \d+\]" if kind else r"λ (\w+)\. \1", text) for text in given)
+
+
+def uncovered(part, source):
+    """The equation without the member before its result."""
+    told = re.match(r"([\w.]+) (?=result ≡ )", part)
+    return part[told.end():] if told and says_all(told.group(1), source) else part
+
+
 def form(clauses, lent, returned, path, source):
     """The form's name and the equation's right side of the first clause that has a form, or ValueError with what is wrong."""
     wrong = ValueError("has a requires" if clauses["requires"] else "has no ensures")
     said = [] if clauses["requires"] else [conjuncts(" ".join(clause.split())) for clause in clauses["ensures"]]
+    said = [[uncovered(part, source) for part in parts] for parts in said]
     plain = [part for parts in said for part in parts if re.match(r"result(?:\.\w+)? ≡ |\w+\.new ≡ ", part)]
     for parts in said + ([plain] if plain else []):
         try:
@@ -198,7 +239,7 @@ def rows_of(path, public):
         if not (public or exported):
             continue
         try:
-            lent = set(re.findall(r"(\w+)\s*:\s*&(?:'\w+ )?mut\b", parameters))
+            lent = {name or receiver for name, receiver in LENT.findall(parameters)}
             kind, right = form(clauses, lent, returned, path, with_used(path, source))
             yield f"| {where} | {kind} | `{right}` |", None
         except ValueError as wrong:
@@ -232,8 +273,22 @@ def write(page):
 
 ADDED = [
     'pub fn another(x: u8) -> u8\n    ensures { result ≡ x }\n{\n    x\n}\n',
+    'pub fn another<F: Fn(&[u8]) -> u8>(f: F, x: u8) -> u8\n    ensures { result ≡ x }\n{\n    x\n}\n',
+    "impl<'a> Another<'a> {\n    pub fn another(x: u8) -> u8\n        ensures { result ≡ x }\n    {\n        x\n    }\n}\n",
+    'pub trait Another {\n    fn another(x: u8) -> u8\n        ensures { result ≡ x };\n}\n',
+    'impl From<u8> for Another {\n    ghost from_gives = { λ x another. another ≡ x };\n\n    fn from(x: u8) -> Another {\n        x\n    }\n}\n',
+]
+EXPORTED = [
     '#[unsafe(no_mangle)]\npub extern "C" fn another(x: u8) -> u8\n    ensures { result ≡ x }\n{\n    x\n}\n',
     '#[unsafe(no_mangle)]\npub extern "C" fn another(x: u8) -> u8 {\n    x\n}\n',
+]
+# What has no form, whatever the page says.
+UNSAID = [
+    ("a receiver's bytes", 'impl Another {\n    pub fn another(&mut self) -> u8\n        ensures { result ≡ 0 }\n    {\n        0\n    }\n}\n'),
+    ("a generic function's result", 'pub fn another<F: Fn(u8) -> u8>(f: F) -> u8 {\n    f(0)\n}\n'),
+    ("a trait function's result", 'pub trait Another {\n    fn another(x: u8) -> u8\n        requires { x ≡ 0 }\n        ensures { result ≡ x };\n}\n'),
+    ("a conversion's result", 'impl From<u8> for Another {\n    ghost from_gives = { λ x another. another < x };\n\n    fn from(x: u8) -> Another {\n        x\n    }\n}\n'),
+    ("a result of another module's conversion", 'impl From<u8> for Another {\n    fn from(x: u8) -> Another {\n        x\n    }\n}\n'),
 ]
 
 
@@ -249,7 +304,11 @@ def faults(page):
                     yield f"{path}: {name} asks for something", path, text[:begin] + "\n    requires { 1 ≡ 1 }" + text[begin:]
                     row = next(line for line in page.split("\n") if line.startswith(f"| `{path}: {name}` |"))
                     yield f"{path}: {name} has no row", PAGE, page.replace(row + "\n", "")
-            for added in ADDED if public else ADDED[1:]:
+                for member in re.findall(r"(\w+) result ≡ ", " ".join(clauses["ensures"])):
+                    hides = re.sub(rf"(ghost {member} = \{{ λ \w+\. )\w+ ", r"\g<1>0 ", text, count=1)
+                    if hides != text:
+                        yield f"{path}: an impl's {member} hides the value", path, hides
+            for added in (ADDED if public else []) + EXPORTED:
                 yield f"{path}: a function without a row", path, text + added
     heads = {origin(path, head) for crate in crates() for path, public in files(crate) for head in heads_in(path, public)}
     for path, name in sorted(heads):
@@ -291,6 +350,13 @@ def self_test():
         spoilt.clear()
         failures += [] if noticed else [f"was not noticed: {said}"]
         passed += bool(noticed)
+    path = next(path for crate in crates() for path, public in files(crate) if public)
+    for said, text in UNSAID:
+        spoilt[path] = read(path) + text
+        noticed = any(wrong for where, wrong in rows_of(path, True) if re.search(r"[ :]another`|Another::", where))
+        spoilt.clear()
+        failures += [] if noticed else [f"{said} is not settled, and this was not noticed"]
+        passed += noticed
     return tally(passed, failures)
 
 

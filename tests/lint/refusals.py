@@ -4,7 +4,7 @@
   tests/lint/refusals.py               compare
   tests/lint/refusals.py --self-test   drop each row of each list, and change its number and its words: each must be noticed
 
-The definition (number_of) is what the others are held to: the enum and its numbers in the code, the header, the bindings, the second program,
+The definition (number_of) is what the others are held to: the enum in the code, whose cases have their numbers, the header, the bindings, the second program,
 the tools, and PROMISES, which has a row for each number. The numbers of each call, in the order of its definition's checks, are held to the
 header, the bindings, and the lists that the tests go by. So a new row is one line in each, and none can be missed.
 """
@@ -24,8 +24,7 @@ PLAYS, STREAMS, BESIDE = "tests/runs/plays.py", "tests/generators/stream_maker.p
 # Each list: its file, what stands around it, and a row of it.
 LISTS = {
     "the definition": (DEFINITION, r"(?s).*", r"^number_of (?P<name>\w+) = (?P<number>\d+)$"),
-    "the enum": (CODE, r"pub enum Refusal \{\n(.*?)\n\}", r"^    (?P<name>\w+),$"),
-    "the enum's numbers": (CODE, r"match self \{\n(.*?)\n        \}", r"^ +Refusal::(?P<name>\w+) => (?P<number>\d+),$"),
+    "the enum": (CODE, r"pub enum Refusal \{\n(.*?)\n\}", r"^    (?P<name>\w+) = (?P<number>\d+),$"),
     "the header": (HEADER, r"enum perdigolh_number \{\n(.*?)\n\};", r"^    PERDIGOLH_(?P<name>\w+) = (?P<number>\d+),? *(?:/\* (?P<words>.*?) \*/)?$"),
     "the bindings": (BINDINGS, r"\nrefusals! \{\n(.*?)\n\}", r'^    (?P<name>\w+) = (?P<number>\d+), "(?P<words>[^"]*)";$'),
     "the second program": (SECOND, r"pub enum Refusal \{\n(.*?)\n\}", r"^    (?P<name>\w+) = (?P<number>\d+),$"),
@@ -100,11 +99,10 @@ def orders():
 def results():
     """Each comparison as its name, what is said and what the definition says."""
     defined = rows("the definition", "name")
-    names, numbers = [name for _, name in defined], [number for number, _ in defined]
+    numbers = [number for number, _ in defined]
     words = dict(rows("the tools", "words"))
     yield "each number stands once", sorted(set(numbers)), sorted(numbers)
-    yield "the enum: its cases", [m["name"] for m in matches("the enum")[1]], names
-    yield "the enum's numbers", rows("the enum's numbers", "name"), defined
+    yield "the enum", rows("the enum", "name"), defined
     yield "the header: names", rows("the header", "name"), [(0, "DONE")] + [(number, shouted(name)) for number, name in defined]
     yield "the header: words", rows("the header", "words"), [(0, None)] + [(number, words.get(number)) for number in numbers]
     yield "the bindings: names", rows("the bindings", "name"), defined

@@ -1,7 +1,7 @@
 #!/usr/bin/env python3
 """Every sign of the definitions and contracts is explained in docs/READING.md, section "Signs".
 
-  tests/lint/signs.py               read crates/*/specs and the contracts of crates/*/src
+  tests/lint/signs.py               read crates/*/specs and the contracts and ghosts of crates/*/src
   tests/lint/signs.py --self-test   take each row out of the page, and bring new signs in: each must be noticed
 
 A sign is a run of characters that are no letters, digits or brackets; a word of the languages (WORDS); a name that a file takes from the kit
@@ -15,7 +15,7 @@ from sources import ANTT_SKIP, RATTLE_SKIP, TOP, closing, tally, without  # noqa
 
 PAGE = "docs/READING.md"
 WORDS = {"Type", "Unit", "where", "record", "data", "module", "infixr", "infixl", "abbrev", "unfoldable", "pub", "use", "as", "mod", "let", "in", "λ",
-         "result", "now", "old", "new", "ensures", "requires", "ghost", "case", "if", "do"}
+         "result", "now", "old", "new", "entry", "ghost_name", "Self", "ensures", "requires", "ghost", "case", "if", "do"}
 SIGN = re.compile(r"[^\w\s(){}\[\]'◌\"`]+|λ|\b0x")
 STRING = re.compile(r'"(?:\\.|[^"\\\n])*"')  # what a text says is no sign
 WORD = re.compile(r"(?<![\w'])[A-Za-z][\w']*")
@@ -24,8 +24,8 @@ USE = re.compile(r"^\s*(?:ghost |pub )?use\s+([^\s{;]+?)(?:\.\{([^}]*)\})?;?\s*$
 
 
 def clauses(text):
-    """The contracts of a file of code, with the words before them."""
-    for m in re.finditer(r"\b(?:ensures|requires)(?: \w+)? \{", text):
+    """The contracts of a file of code, and the ghosts of its traits, conversions and structs, with the words before them."""
+    for m in re.finditer(r"\b(?:(?:ensures|requires)(?: \w+)?|ghost \w+(?: =|:)) \{", text):
         yield text[m.start():closing(text, m.end() - 1)]
 
 
@@ -85,6 +85,8 @@ def self_test():
     for said, more in (("a new sign", "a : A\na = b ⊕ c\n"), ("a new word", "f x = case x\n"), ("a name of the kit", "use Rattle.std.specs.Prelude.{reverse}\n"), ("an infix", "◌upon◌ : A\n")):
         results.append((said, bool(missing(sources | {"crates/x/specs/X.antt": more}, page))))
     results.append(("a contract's sign", bool(missing(sources | {"crates/x/src/lib.rt": "fn f()\n    ensures last { ⟦ result ⟧ }\n"}, page))))
+    for ghost in ("ghost from_gives = { λ x y. ⟦ y ⟧ };", "ghost width: { ⟦ ℕ ⟧ };", "ghost fits: { x ⟦ 1 },"):
+        results.append((ghost, bool(missing(sources | {"crates/x/src/lib.rt": f"impl A for B {{\n    {ghost}\n}}\n"}, page))))
     wrong = [f"{said}: not as it should be" for said, good in results if not good]
     return tally(len(results) - len(wrong), wrong)
 

@@ -6,13 +6,14 @@
   tests/lint/unused.py --drop-imports   write the sources without the imports that are not used; rt fmt then sets the lines
   tests/lint/unused.py --self-test      look at a made-up tree, where the answer is known
 
-Names are the definitions, laws, records, data types and rulesets of specs/ and proofs/, and the functions, structs, enums and constants
-of src/. A name is reached from a root, or from a name that is reached and has it in its text; its own text does not count, nor does an
-import. Roots are `main`, exported functions, the answers and invariants of functions (of a type `goal.NAME`, goal being a function's Goals or
+Names are the definitions, laws, records, data types and rulesets of specs/ and proofs/, and the functions, structs, enums, traits and
+constants of src/. A trait's function and those of its impls in the same file are one name; what else an impl of a trait says is text of the
+trait, and the whole impl of a trait of another file, as of From, is text of its type. A name is reached from a root, or from a name that is
+reached and has it in its text; its own text does not count, nor does an import. Roots are `main`, exported functions, the answers and invariants of functions (of a type `goal.NAME`, goal being a function's Goals or
 Given; `NAME-spec` in a Proof.antt), what a page of docs/ or README cites or quotes, and a function that takes nothing and answers a constant, whose contract ties it to its definition. The table of docs/OUTCOMES.md is
 no root: it is written from the sources. Fields and variants are not looked at; where a page cites a field, it cites its record.
 A word stands for a name wherever it is no projection, so that a local variable can hide an unused name, and a finding is one.
-An import is unused where no text of its file has the name, a crate of crates.txt where no source of the other has it.
+An import is unused where no text of its file has the name, nor a function of a trait that is imported (of std's, METHODS); a crate of crates.txt where no source of the other has it.
 """
 import argparse
 import contextlib
@@ -22,7 +23,7 @@ import tempfile
 from pathlib import Path
 
 sys.dont_write_bytecode = True
-from sources import ANTT_SKIP, BLOCK, CITATION, RATTLE_SKIP, TOP, closing, names, tally, without  # noqa: E402
+from sources import ANTT_SKIP, BLOCK, CITATION, RATTLE_SKIP, TOP, blank, closing, names, tally, without  # noqa: E402
 
 WORD = re.compile(r"(\.?)(\[\]|[^\s(){}\[\],;.]+)")
 FIELD = re.compile(r"(?<=[{;])\s*[^\s={}();]+\s*=(?=\s)")  # record { field = .. }
@@ -31,10 +32,12 @@ DECLARED = re.compile(r"(?:pub\s+)?(?:record|data|ruleset)\s+(\S+)")
 USE = re.compile(r"^(?:pub |ghost )*use\s+([^\s{;]+?)(?:\.\{([^}]*)\}|\s+as\s+(\S+?))?;?\s*$", re.M)
 RUST_USE = re.compile(r"^\s*(?:pub )?use\s+((?:\w+::)*)(?:\{([^}]*)\}|(\w+(?:\s+as\s+\w+)?));", re.M)
 CLAUSE = r"(?:requires|ensures|measure|invariant)\*?(?:\s+\w+)?\s*"
-RUST_NAME = re.compile(r"\b(?:fn|struct|enum|const)\s+(\w+)")
+RUST_NAME = re.compile(r"\b(?:fn|struct|enum|const|trait)\s+(\w+)")
+PRIMITIVE = re.compile(r"[iu](?:8|16|32|64|128|size)")
 # a function that takes nothing and answers a constant is there for its contract: it ties the constant to its definition
 TIE = re.compile(r"^fn \w+\(\) -> \w+\s+ensures(?:\s+\w+)?\s*\{[^{}]*\}\s*\{\s*\w+::[A-Z_]+\s*\}$")
-IMPL = re.compile(r"^impl\b(?:<[^>]*>)?\s+(\w+)[^{]*\{", re.M)
+METHODS = {"Read": {"chain", "read_exact"}}  # a trait of std is imported for its methods
+IMPL = re.compile(r"^(?:impl\b(?:<[^>]*>)?\s+(?:([^{]+?)\s+for\s+)?|(?:pub )?trait\s+)(\w+)[^{]*\{", re.M)  # the trait of an impl, and the type or trait
 
 
 def words(text):
@@ -48,6 +51,11 @@ def words(text):
         elif before:
             behind.add((before.group(), m.group(2)))
     return plain, behind
+
+
+def named(trait):
+    """The name of a trait, without its path and what it is of."""
+    return trait.partition("<")[0].rpartition("::")[2]
 
 
 def has(plain, name):
@@ -127,18 +135,31 @@ class File:
                 name, _, local = item.partition(" as ")
                 self.imports[local.strip() or name] = self.tree.rust_target(self, m.group(1).split("::")[:-1], name)
         text = without(RUST_USE, text)
-        impls = [(m.group(1), m.end() - 1, closing(text, m.end() - 1)) for m in IMPL.finditer(text)]
+        impls = [(*m.groups(), m.end() - 1, closing(text, m.end() - 1)) for m in IMPL.finditer(text)]
+        traits, rest = set(re.findall(r"\btrait\s+(\w+)", text)), text
         for m in RUST_NAME.finditer(text):
-            kind = "".join(f"{name}::" for name, a, b in impls if a <= m.start() < b)
-            self.names[kind + m.group(1)] = text[m.start():self.item_end(text, m.end())]
+            around = [(trait, name) for trait, name, a, b in impls if a <= m.start() < b]
+            if any(trait and named(trait) not in traits for trait, _ in around):
+                continue
+            kind = "".join(f"{named(trait or name)}::" for trait, name in around)
+            name, own = kind + m.group(1), text[m.start():self.item_end(text, m.end())]
+            rest = rest[:m.start()] + blank(own) + rest[m.start() + len(own):] if around else rest
+            self.names[name] = f"{self.names[name]}\n{own}" if name in self.names else own
             line = text[text.rfind("\n", 0, m.start()) + 1:m.start()]
-            if m.group(1) == "main" or "extern" in line or TIE.search(self.names[kind + m.group(1)]):
+            if m.group(1) == "main" or "extern" in line or TIE.search(own):
                 self.roots.add(kind + m.group(1))
+        # what a type is by a trait is part of the trait that is declared here, or of the type that is; where neither is, it is there for itself
+        for trait, name, a, b in (impl for impl in impls if impl[0]):
+            own = named(trait) in traits
+            declared = [word for word in [named(trait) if own else name, *re.findall(r"\w+", trait)] if word in self.names]
+            key = declared[0] if declared else f"{name} by {trait}"
+            self.roots |= set() if declared else {key}
+            self.names[key] = self.names.get(key, "") + (rest if own else text)[a:b]
 
     def take_ghosts(self, text):
-        ghosts = "\n".join(m.group() for m in re.finditer(r"^ghost use [^;]*;", text, re.M))
+        ghosts = "\n".join(m.group(1) for m in re.finditer(r"^ *(ghost use [^;]*;)", text, re.M))
         self.take_uses(ghosts)
-        return re.sub(r"^ghost use [^;]*;", "", text, flags=re.M)
+        return re.sub(r"^ *ghost use [^;]*;", "", text, flags=re.M)
 
     @staticmethod
     def item_end(text, at):
@@ -176,15 +197,23 @@ class File:
                 found.add(self.imports[name])
         for path in re.findall(r"\b\w+(?:::\w+)+", text):
             found |= self.tree.rust_path(self, path.split("::"))
+            found |= self.tree.methods(path.split("::")[-1]) if PRIMITIVE.match(path) else set()
         for name in re.findall(r"\.(\w+)\(", text):
             found |= self.tree.methods(name)
         return found
+
+    def functions_of(self, local):
+        """The functions of a trait that is imported."""
+        path, name = self.imports[local] or (None, None)
+        home = self.tree.files.get(path)
+        known = home.names if home and home.names.get(name, "").startswith("trait ") else {}
+        return {known_name.rpartition("::")[2] for known_name in known if known_name.startswith(f"{name}::")}
 
     def unused_imports(self):
         text = "\n".join(self.names.values())
         plain, behind = words(text)
         rust = set(re.findall(r"\w+", text)) if self.path.endswith(".rt") else set()
-        unused = [local for local in self.imports if not has(plain, local) and local not in rust]
+        unused = [local for local in self.imports if not has(plain, local) and not rust & {local, *METHODS.get(local, []), *self.functions_of(local)}]
         return unused + [alias for alias in self.aliases if alias not in {before for before, _ in behind}]
 
 
@@ -261,6 +290,14 @@ class Tree:
             for path, block in BLOCK.findall(text):
                 yield from ((path, m.group(1)) for line in block.split("\n") if (m := DECLARED.match(line) or SIGNATURE.match(line)))
 
+    def told(self):
+        """The laws that a function tells the check to use, `#[tactic(auto, using(crate::proofs::Laws::law))]`: they are roots too."""
+        for path, file in self.files.items():
+            text = without(RATTLE_SKIP, (self.top / path).read_text(encoding="utf8")) if path.endswith(".rt") else ""
+            for said in re.findall(r"#!?\[tactic\([^\]]*?using\(([^)]*)\)", text):
+                for crate, module, name in re.findall(r"(\w+)::proofs::([\w:]+)::([^\s:,]+)", said):
+                    yield f"crates/{file.crate if crate == 'crate' else crate}/proofs/{module.replace('::', '/')}.antt", name
+
     def unused_crates(self):
         """Each crate with one that it lists and does not name."""
         for line in (self.top / "crates.txt").read_text(encoding="utf8").splitlines():
@@ -273,7 +310,7 @@ class Tree:
                     yield crate, name
 
     def live(self):
-        waiting = [(path, name) for path, file in self.files.items() for name in file.roots] + list(self.pages())
+        waiting = [(path, name) for path, file in self.files.items() for name in file.roots] + [*self.pages(), *self.told()]
         reached = set()
         while waiting:
             path, name = waiting.pop()
@@ -373,7 +410,7 @@ first = second
 second : ℕ
 second = first
 """,
-    "crates/a/proofs/More.antt": "pub needed : ℕ\nneeded = 1\n\npub kept : ℕ → ℕ\nkept n = n\n\npub spare : ℕ\nspare = 1\n",
+    "crates/a/proofs/More.antt": "pub needed : ℕ\nneeded = 1\n\npub kept : ℕ → ℕ\nkept n = n\n\npub spare : ℕ\nspare = 1\n\npub told : ℕ\ntold = 1\n\npub told_too : ℕ\ntold_too = 1\n",
     "crates/a/proofs/called/Answers.antt": """use Rattle.a.proofs.called.Goals as goal
 use Rattle.a.specs.Defs.{used}
 part : ℕ
@@ -402,6 +439,7 @@ f-spec = returns
     "crates/a/src/lib.rt": """ghost use Rattle.a.specs.Defs.{used};
 pub mod m;
 use super::m::{g, idle};
+use super::n::Wide;
 pub struct T { x: u8 }
 pub enum Lone { A, B }
 impl T {
@@ -417,6 +455,7 @@ impl T {
     pub fn uncalled(self) -> usize { T::LOOSE }
 }
 pub fn listed() -> usize { 1 }
+#[tactic(auto, using(crate::proofs::More::told, a::proofs::More::told_too), unfolding(crate::specs::Defs::said))]
 pub fn whole() -> usize { 1 }
 // fn said() {}
 #[unsafe(no_mangle)]
@@ -428,8 +467,75 @@ pub extern "C" fn out(t: T) -> usize
 }
 """,
     "crates/a/src/m.rt": "pub fn g() -> usize { m_only() }\nfn m_only() -> usize { 1 }\npub fn idle() -> usize { 1 }\n",
-    "crates/a/src/n.rt": "pub struct Far {}\nimpl Far {\n    pub const AT: usize = 1;\n    pub const OFF: usize = 1;\n}\npub fn far() -> usize { 1 }\n",
-    "crates/b/src/main.rt": "use a::m;\nfn main() { let x = m::g(); let y = a::n::far() + a::n::Far::AT + a::whole(); }\nfn beside() {}\n",
+    "crates/a/src/n.rt": """ghost use Rattle.a.specs.Defs.{used};
+ghost use Rattle.a.proofs.More.{needed, kept as near_kept};
+pub struct Far {}
+impl Far {
+    pub const AT: usize = 1;
+    pub const OFF: usize = 1;
+}
+impl From<u8> for Far {
+    ghost from_gives = { λ n far. used n ≡ far };
+    fn from(n: u8) -> Far { near(n) }
+}
+fn near(n: u8) -> Far { Far {} }
+pub struct Off {}
+impl From<u8> for Off {
+    fn from(n: u8) -> Off { off(n) }
+}
+fn off(n: u8) -> Off { Off {} }
+pub struct Model<'a> { ghost inside: { needed }, x: &'a u8 }
+impl<'a> Model<'a> {
+    pub fn modelled() -> usize { inner() }
+}
+impl std::marker::Model for Model<'_> {
+    ghost view = { λ m. near_kept m };
+}
+fn inner() -> usize { 1 }
+pub fn far() -> usize { Model::modelled() }
+pub trait Wide {
+    fn wide() -> usize;
+    fn spare(self) -> usize;
+    fn lent(self) -> usize;
+}
+impl Wide for u8 {
+    fn wide() -> usize { below() }
+    fn spare(self) -> usize { least() }
+    fn lent(self) -> usize { 1 }
+}
+impl Wide for u16 {
+    ghost width = { most };
+    fn wide() -> usize { 2 }
+    fn spare(self) -> usize { 2 }
+    fn lent(self) -> usize { 2 }
+}
+fn below() -> usize { 1 }
+fn least() -> usize { 1 }
+fn most() -> usize { 1 }
+""",
+    "crates/a/src/o.rt": """use super::n::{Far, Wide};
+pub struct Own {}
+impl Wide for Own {
+    fn wide() -> usize { owned() }
+}
+fn owned() -> usize { 1 }
+impl From<Far> for u8 {
+    fn from(f: Far) -> u8 { numbered() }
+}
+fn numbered() -> u8 { 1 }
+pub struct Alone {}
+impl Wide for Alone {
+    fn wide() -> usize { alone() }
+}
+fn alone() -> usize { 1 }
+""",
+    "crates/b/src/main.rt": """use a::m;
+use a::n::Wide;
+use a::o::Own;
+use std::io::{Read, Write};
+fn main() { r().read_exact(b); let x = m::g(); let y = a::n::far() + a::n::Far::AT + a::whole() + u16::wide() + Own {}.lent(); }
+fn beside() {}
+""",
 }
 FOUND = [
     ("crates/a/specs/Cited.antt", "reaches landed"),
@@ -441,13 +547,16 @@ FOUND = [
     ("crates/a/proofs/called/Invariants.antt", "reaches nowhere"),
     *(("crates/a/src/lib.rt", f"reaches {name}") for name in ("Lone", "T::LOOSE", "T::uncalled", "listed")),
     ("crates/a/src/m.rt", "reaches idle"),
-    ("crates/a/src/n.rt", "reaches Far::OFF"),
+    *(("crates/a/src/n.rt", f"reaches {name}") for name in ("Far::OFF", "Off", "off", "Wide::spare", "least")),
+    *(("crates/a/src/o.rt", f"reaches {name}") for name in ("Alone", "alone")),
     ("crates/b/src/main.rt", "reaches beside"),
+    ("crates/b/src/main.rt", "imports Write"),
     ("crates/a/specs/Defs.antt", "imports T"),
     ("crates/a/proofs/Laws.antt", "imports own"),
     ("crates/a/proofs/Laws.antt", "imports fewer"),
     ("crates/a/proofs/f/Proof.antt", "imports needed"),
     ("crates/a/src/lib.rt", "imports idle"),
+    ("crates/a/src/lib.rt", "imports Wide"),
     ("crates.txt", "b lists c"),
 ]
 

@@ -1,4 +1,5 @@
 -- What the tests of the checks say in plain words, both ways: the parts of specs/Accepted.
+use Rattle.std.specs.Prelude.{Some}
 use Prim.Native.Nat.{ℕ, ◌≤◌, ◌<◌}
 use native.Mathlib.Omega.{arith}
 use native.Mathlib.Decide.{dec_lt}
@@ -26,7 +27,6 @@ use Rattle.ledger_laws.proofs.Searches.{First, some_in, first_in, first_place, f
 use Rattle.clients.specs.Known.{is_known, place_of, known}
 use Rattle.clients.specs.Sound.{sound as table_sound}
 use Rattle.clients.specs.Plain.{KnownAt}
-use Rattle.clients.specs.declared.known.Known.TheVariants.{At}
 use Rattle.clients.proofs.Laws.{known_at, known_sound}
 use Rattle.description.specs.Description.{live_text, inactive_text}
 use Rattle.desk.specs.Checks.{scope_fits, within}
@@ -48,14 +48,14 @@ time_says l t = (
 pub known_is : (table v key : List ℕ) → is_known table v key ≡ true → KnownAt table v key (place_of table v)
 unfolding known
 known_is table v key e =
-    let at : known table v key ≡ At (place_of table v) = rw e in
+    let at : known table v key ≡ Some (place_of table v) = rw e in
     let (f, x) = known_at table v key (place_of table v) at in
     record { inside = f.inside; id_is = f.has; key_is = x }
 
 pub is_known_lem : (table v key : List ℕ) (k : ℕ) → table_sound table ≡ true → KnownAt table v key k → (is_known table v key ≡ true) × (place_of table v ≡ k)
 is_known_lem table v key k s c =
     let e = known_sound table v key k s c.inside c.id_is c.key_is in
-    (known_told table v key (At k) e, known_place table v key k e)
+    (known_told table v key (Some k) e, known_place table v key k e)
 
 pub scope_says : (asked given : ℕ) → (scope_fits asked given ≡ true) ↔ ScopeWithin asked given
 unfolding scope_fits

@@ -1,16 +1,18 @@
 -- Laws by which the code's order of checks 3 and 4 gives their definitions.
+use Rattle.std.specs.Prelude.{Option, Some, None, position, unwrap_or}
+use Rattle.std.specs.Option.{is_some}
+use Rattle.std.specs.Bool.{then_some}
 use Prim.Native.Nat.{ℕ, ◌<◌, ◌≤◌}
 use native.Mathlib.Omega.{arith}
-use mathlib.Core.Path.{◌≡◌, refl, ap, ◌∙◌}
-use mathlib.Core.Bool.{Bool, true, false, ◌&&◌, and-false}
+use mathlib.Core.Path.{◌≡◌, refl, ap, sym, ◌∙◌}
+use mathlib.Core.Bool.{Bool, true, false, ◌&&◌, cond, true≢false, false≢true}
 use mathlib.Core.List.{List}
-use Rattle.octets.specs.Lists.{every, some}
-use Rattle.octets.proofs.Lists.{every_and, place_lt, place_some}
+use Rattle.octets.specs.Lists.{every, some, place}
+use Rattle.octets.proofs.Lists.{every_and, place_lt, place_some, position_is}
 use Rattle.octets.proofs.Tests.{false_of}
 use Rattle.clients.specs.Fields.{clients, client, entries}
 use Rattle.clients.specs.Sound.{length_right, id_given, ids_given, key_given, keys_given, ids_distinct, lifetime_fits, lifetimes_fit, rest_zero, rests_zero, sound, sound_record}
 use Rattle.clients.specs.Known.{has_id, has_key, place_of, is_known, known}
-use Rattle.clients.specs.declared.known.Known.TheVariants.{At, Unknown}
 use Rattle.clients.proofs.Entries.{length_entries}
 
 -- ---- check 3: the rules of one record in one pass, the pairs last
@@ -52,15 +54,22 @@ module _ (t v : List ℕ) where
   unfolding place_of
   id_somewhere h = place_some (has_id v) (entries t) (rw (length_entries t) h)
 
-  module _ (key : List ℕ) where
-    pub no_such_id : clients t ≤ place_of t v → known t v key ≡ Unknown
-    unfolding known is_known
-    no_such_id h = rw (id_nowhere h)
+  pub key_agrees : (key : List ℕ) → place_of t v < clients t → has_key key (client t (place_of t v)) ≡ true → known t v key ≡ Some (place_of t v)
+  unfolding known is_known
+  key_agrees key h e = rw (id_somewhere h, e)
 
-    pub key_differs : has_key key (client t (place_of t v)) ≡ false → known t v key ≡ Unknown
-    unfolding known is_known
-    key_differs e = rw (e, and-false)
+module _ (t v key : List ℕ) where
+  -- by what the search for the id answers
+  known_by : (o : Option ℕ) (b : Bool) → some (has_id v) (entries t) ≡ b → cond b (Some (place (has_id v) (entries t))) None ≡ o
+      → known t v key ≡ elim o [ None ↦ None | Some k ↦ then_some (has_key key (client t k)) k ]
+  unfolding known is_known place_of
+  known_by (Some k) true e f = let g : place (has_id v) (entries t) ≡ k = ap (λ o. unwrap_or o 0) f in rw (e, g)
+  known_by None true e f = absurd (true≢false (ap is_some f))
+  known_by (Some k) false e f = absurd (false≢true (ap is_some f))
+  known_by None false e f = rw e
 
-    pub key_agrees : place_of t v < clients t → has_key key (client t (place_of t v)) ≡ true → known t v key ≡ At (place_of t v)
-    unfolding known is_known
-    key_agrees h e = rw (id_somewhere h, e)
+  pub known_none : position (has_id v) (entries t) ≡ None → known t v key ≡ None
+  known_none e = known_by None _ refl (sym (position_is (has_id v) (entries t)) ∙ e)
+
+  pub known_some : (k : ℕ) → position (has_id v) (entries t) ≡ Some k → known t v key ≡ then_some (has_key key (client t k)) k
+  known_some k e = known_by (Some k) _ refl (sym (position_is (has_id v) (entries t)) ∙ e)

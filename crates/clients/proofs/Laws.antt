@@ -1,4 +1,5 @@
 -- What the definitions of the client table say of its records, in both directions.
+use Rattle.std.specs.Prelude.{Some, None}
 use Prim.Native.Nat.{ℕ, ◌*◌, ◌<◌, ◌≤◌}
 use native.Mathlib.Omega.{arith}
 use mathlib.Core.Path.{◌≡◌, refl, sym, ap, ◌∙◌}
@@ -18,7 +19,6 @@ use Rattle.clients.specs.Fields.{clients, client, entries, id_span, id, auth_key
 use Rattle.clients.specs.Sound.{length_right, id_given, ids_given, key_given, keys_given, same_id, ids_distinct, lifetime_fits, lifetimes_fit, rest_zero, rests_zero, sound}
 use Rattle.clients.specs.Plain.{SoundTable}
 use Rattle.clients.specs.Known.{has_id, has_key, place_of, at_if, is_known, known}
-use Rattle.clients.specs.declared.known.Known.TheVariants.{At, Unknown}
 use Rattle.clients.proofs.Entries.{length_entries, entry_at, field_length, at_each, of_each}
 use Rattle.clients.proofs.Checks.{id_nowhere, id_somewhere, key_agrees}
 
@@ -115,13 +115,13 @@ module _ (t v : List ℕ) where
   none_of h j g = differ_is _ _ (ap (has_id v) (sym (entry_at t j g)) ∙ none_inside (has_id v) [] (entries t) (id_nowhere t v h) j (rw (length_entries t) g))
 
 -- the place answered, and that one was answered
-at_is : (b : Bool) (p k : ℕ) → at_if b p ≡ At k → (b ≡ true) × (p ≡ k)
+at_is : (b : Bool) (p k : ℕ) → at_if b p ≡ Some k → (b ≡ true) × (p ≡ k)
 at_is true p k e = (refl, cc)
 at_is false p k e = let z : ◌≡◌ {A = ℕ} 0 1 = cc in absurd (omega arith)
 
 module _ (t v key : List ℕ) where
   -- found: the first record with this id, and it has this key
-  pub known_at : (k : ℕ) → known t v key ≡ At k → First t v k × (auth_key (client t k) ≡ key)
+  pub known_at : (k : ℕ) → known t v key ≡ Some k → First t v k × (auth_key (client t k) ≡ key)
   unfolding known is_known has_key place_of
   known_at k e =
       let r = at_is _ _ k e in
@@ -129,31 +129,31 @@ module _ (t v key : List ℕ) where
       let h : place_of t v < clients t = rw (length_entries t) at (place_lt (has_id v) (entries t) b.0) in
       (rw r.1 at (first_of t v h), rw r.1 at (same_eq _ _ b.1))
 
-  pub at_known : (k : ℕ) → First t v k → auth_key (client t k) ≡ key → known t v key ≡ At k
+  pub at_known : (k : ℕ) → First t v k → auth_key (client t k) ≡ key → known t v key ≡ Some k
   unfolding has_key
   at_known k f e =
       let p = first_is t v k f in
-      key_agrees t v key (rw p f.inside) (rw p (same_of _ _ e)) ∙ ap At p
+      key_agrees t v key (rw p f.inside) (rw p (same_of _ _ e)) ∙ ap Some p
 
   -- in a sound table no other record has this id
-  pub known_only : (k : ℕ) → sound t ≡ true → known t v key ≡ At k → (j : ℕ) → j < clients t → id (client t j) ≡ v → j ≡ k
+  pub known_only : (k : ℕ) → sound t ≡ true → known t v key ≡ Some k → (j : ℕ) → j < clients t → id (client t j) ≡ v → j ≡ k
   known_only k s e j h i =
       let f = (known_at k e).0 in
       (of_sound t s).distinct j k h f.inside (i ∙ sym f.has)
 
   -- and any record with this id and key is found
-  pub known_sound : (k : ℕ) → sound t ≡ true → k < clients t → id (client t k) ≡ v → auth_key (client t k) ≡ key → known t v key ≡ At k
+  pub known_sound : (k : ℕ) → sound t ≡ true → k < clients t → id (client t k) ≡ v → auth_key (client t k) ≡ key → known t v key ≡ Some k
   known_sound k s h i e =
       at_known k
       record { inside = h; has = i; before = λ j l z. omega (arith, (of_sound t s).distinct j k (omega arith) h (z ∙ sym i)) }
       e
 
   -- not found: no record has this id, or the first that has it has another key
-  pub unknown : known t v key ≡ Unknown → ((j : ℕ) → j < clients t → id (client t j) ≢ v) ⊎ ((k : ℕ) × First t v k × (auth_key (client t k) ≢ key))
+  pub unknown : known t v key ≡ None → ((j : ℕ) → j < clients t → id (client t j) ≢ v) ⊎ ((k : ℕ) × First t v k × (auth_key (client t k) ≢ key))
   unknown e = by (ltb (place_of t v) (clients t)) refl
     where
       by : (b : Bool) → ltb (place_of t v) (clients t) ≡ b → ((j : ℕ) → j < clients t → id (client t j) ≢ v) ⊎ ((k : ℕ) × First t v k × (auth_key (client t k) ≢ key))
       by false p = inl (none_of t v (ltb-false _ _ p))
       by true p =
           let f = first_of t v (ltb-true _ _ p) in
-          inr (place_of t v, f, λ k. let z : At (place_of t v) ≡ Unknown = sym (at_known (place_of t v) f k) ∙ e in let y : ◌≡◌ {A = ℕ} 0 1 = cc in absurd (omega arith))
+          inr (place_of t v, f, λ k. let z : Some (place_of t v) ≡ None = sym (at_known (place_of t v) f k) ∙ e in let y : ◌≡◌ {A = ℕ} 0 1 = cc in absurd (omega arith))

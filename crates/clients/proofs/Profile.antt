@@ -1,4 +1,5 @@
 -- The profile's own limit of a reference: what a table gives.
+use Rattle.std.specs.Prelude.{Some}
 use Prim.Native.Nat.{ℕ, ◌<◌, ◌≤◌}
 use native.Mathlib.Omega.{arith}
 use mathlib.Core.Path.{◌≡◌, refl, ap, ◌∙◌}
@@ -13,7 +14,6 @@ use Rattle.clients.specs.Fields.{clients, client, lifetime_span, lifetime_said}
 use Rattle.clients.specs.Lifetime.{lifetime_of}
 use Rattle.clients.specs.Sound.{sound}
 use Rattle.clients.specs.Known.{known}
-use Rattle.clients.specs.declared.known.Known.TheVariants.{At}
 use Rattle.clients.specs.Profile.{Profile}
 use Rattle.clients.proofs.Laws.{of_sound, known_at}
 
@@ -50,7 +50,7 @@ pub given_under : (t : List ℕ) → sound t ≡ true → (k : ℕ) → k < clie
 given_under t s k h = omega (arith, given_most t s k h, reference_profile)
 
 -- of the client that check 4 finds
-pub known_most : (t v key : List ℕ) (k : ℕ) → sound t ≡ true → known t v key ≡ At k → lifetime_of (client t k) ≤ lifetime_most
+pub known_most : (t v key : List ℕ) (k : ℕ) → sound t ≡ true → known t v key ≡ Some k → lifetime_of (client t k) ≤ lifetime_most
 known_most t v key k s e = given_most t s k (known_at t v key k e).0.inside
 
 num_blank : num (blank lifetime_span.width) ≡ 0

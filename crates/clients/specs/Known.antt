@@ -1,10 +1,8 @@
 -- Which client is known (document 01, section "Numbers returned", 4).
-use Rattle.std.specs.Prelude.{ℕ, Bool, true, false, ◌&&◌, List}
+use Rattle.std.specs.Prelude.{ℕ, Bool, true, false, ◌&&◌, List, Option, Some, None}
 use Rattle.octets.specs.Lists.{some, place}
 use Rattle.octets.specs.Parts.{same}
 use Rattle.clients.specs.Fields.{client, entries, id, auth_key}
-use Rattle.clients.specs.declared.known.Known.{Known}
-use Rattle.clients.specs.declared.known.Known.TheVariants.{At, Unknown}
 
 -- the record has this client id, this authentication key
 unfoldable pub has_id : List ℕ → List ℕ → Bool
@@ -21,10 +19,10 @@ place_of t v = place (has_id v) (entries t)
 unfoldable pub is_known : List ℕ → List ℕ → List ℕ → Bool
 is_known t v key = some (has_id v) (entries t) && has_key key (client t (place_of t v))
 
-abbrev pub at_if : Bool → ℕ → Known
-at_if true k = At k
-at_if false k = Unknown
+abbrev pub at_if : Bool → ℕ → Option ℕ
+at_if true k = Some k
+at_if false k = None
 
 -- what check 4 answers
-unfoldable pub known : List ℕ → List ℕ → List ℕ → Known
+unfoldable pub known : List ℕ → List ℕ → List ℕ → Option ℕ
 known t v key = at_if (is_known t v key) (place_of t v)

@@ -6,7 +6,7 @@ ghost use Rattle.clients.specs.Lifetime.{lifetime_of};
 ghost use Rattle.clients.specs.Sound.{lifetime_fits};
 
 use super::record::Field;
-use octets::number::read16;
+use octets::number::Number;
 use octets::part::cut;
 
 #[derive(Clone, Copy)]
@@ -35,21 +35,22 @@ impl Reference {
 fn said(c: &[u8]) -> u64
     ensures { result ≡ lifetime_said c.now }
 {
-    read16(cut(c, Field::LIFETIME, Field::LIFETIME_WIDTH)) as u64
+    u64::from(u16::read(cut(c, Field::LIFETIME, Field::LIFETIME_WIDTH)))
 }
 
+#[tactic(auto, unfolding(crate::specs::Sound::lifetime_fits))]
 pub fn fits(c: &[u8]) -> bool
     ensures { result ≡ lifetime_fits c.now }
 {
     said(c) <= Reference::MOST
 }
 
+#[tactic(auto, unfolding(crate::specs::Lifetime::lifetime_of))]
 pub fn lifetime_of(c: &[u8]) -> u64
     ensures { result ≡ lifetime_of c.now }
 {
-    let seconds = said(c);
-    if seconds == 0 {
-        return Reference::LIFETIME;
+    match said(c) {
+        0 => Reference::LIFETIME,
+        seconds => seconds,
     }
-    seconds
 }

@@ -1,9 +1,9 @@
 // A client record: where its fields are, and what is read off record k of a table. Past the last record there are no bytes.
 ghost use Rattle.std.specs.Prelude.{◌≡◌};
 ghost use Rattle.clients.specs.Limits.{client_size};
-ghost use Rattle.clients.specs.Fields.{clients, client, permitted};
+ghost use Rattle.clients.specs.Fields.{clients, client, entries, permitted};
 
-use octets::number::read32;
+use octets::number::Number;
 use octets::part::cut;
 
 #[derive(Clone, Copy)]
@@ -52,6 +52,15 @@ pub fn clients(table: &[u8]) -> usize
     table.len() / Client::SIZE
 }
 
+pub(crate) type Record = [u8; Client::SIZE];
+
+// The whole records, in table order.
+pub(crate) fn entries(table: &[u8]) -> &[Record]
+    ensures { result.now ≡ entries table.now }
+{
+    table.as_chunks::<{ Client::SIZE }>().0
+}
+
 // Record k. The place is computed only where it cannot pass the end.
 pub fn client_at(table: &[u8], k: usize) -> &[u8]
     ensures { result.now ≡ client table.now k }
@@ -66,7 +75,7 @@ pub fn client_at(table: &[u8], k: usize) -> &[u8]
 pub fn permitted(table: &[u8], k: usize) -> u32
     ensures { result ≡ permitted (client table.now k) }
 {
-    read32(cut(
+    u32::read(cut(
         client_at(table, k),
         Field::PERMITTED,
         Field::PERMITTED_WIDTH,

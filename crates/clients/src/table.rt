@@ -1,11 +1,10 @@
 // Check 3: whether the client table is sound.
-ghost use Rattle.std.specs.Prelude.{◌≡◌, ◌<◌};
-ghost use Rattle.octets.specs.Lists.{every};
+ghost use Rattle.std.specs.Prelude.{◌≡◌};
+ghost use Rattle.octets.specs.Lists.{every, apart};
 ghost use Rattle.clients.specs.Limits.{clients_least, clients_most};
-ghost use Rattle.clients.specs.Fields.{clients, client, entries, id};
-ghost use Rattle.clients.specs.Sound.{length_right, sound_record, ids_distinct, check_table};
+ghost use Rattle.clients.specs.Sound.{length_right, sound_record, same_id, check_table};
 
-use super::record::{Client, Field};
+use super::record::{Client, Field, Record};
 use super::{lifetime, record};
 use octets::part::{cut, is_zero, same};
 
@@ -33,90 +32,61 @@ impl Table {
     }
 }
 
+#[tactic(auto, using(octets::proofs::Ranges::contains_is), unfolding(crate::specs::Sound::length_right))]
 fn length_right(table: &[u8]) -> bool
     ensures { result ≡ length_right table.now }
 {
     let n = record::clients(table);
-    if table.len() != Client::SIZE * n {
-        return false;
-    }
-    if n < Table::LEAST {
-        return false;
-    }
-    n <= Table::MOST
+    table.len() == Client::SIZE * n && (Table::LEAST..=Table::MOST).contains(&n)
 }
 
-fn sound_record(c: &[u8]) -> bool
+#[tactic(auto, unfolding(crate::specs::Sound::sound_record, crate::specs::Sound::id_given, crate::specs::Sound::key_given, crate::specs::Sound::rest_zero))]
+fn sound_record(c: &Record) -> bool
     ensures { result ≡ sound_record c.now }
 {
-    if is_zero(cut(c, Field::ID, Field::ID_WIDTH)) {
-        return false;
-    }
-    if is_zero(cut(c, Field::AUTH_KEY, Field::AUTH_KEY_WIDTH)) {
-        return false;
-    }
-    if !lifetime::fits(c) {
-        return false;
-    }
-    is_zero(cut(c, Field::REST, Field::REST_WIDTH))
+    !is_zero(cut(c, Field::ID, Field::ID_WIDTH))
+        && !is_zero(cut(c, Field::AUTH_KEY, Field::AUTH_KEY_WIDTH))
+        && lifetime::fits(c)
+        && is_zero(cut(c, Field::REST, Field::REST_WIDTH))
 }
 
-fn sound_records(table: &[u8]) -> bool
-    ensures { result ≡ every sound_record (entries table.now) }
+fn sound_records(entries: &[Record]) -> bool
+    ensures { result ≡ every sound_record entries.now }
 {
-    let n = record::clients(table);
-    let mut k = 0;
-    while k < n {
-        if !sound_record(record::client_at(table, k)) {
-            return false;
-        }
-        k += 1;
-    }
-    true
+    entries.iter().all(sound_record)
 }
 
-// The id of record k, which it begins with, read where it stands.
-fn id_at(table: &[u8], k: usize) -> &[u8]
-    requires { k < clients table.now }
-    ensures { result.now ≡ id (client table.now k) }
+#[tactic(auto, unfolding(crate::specs::Sound::same_id))]
+fn same_id(c: &Record, d: &Record) -> bool
+    ensures { result ≡ same_id c.now d.now }
 {
-    let a = Client::SIZE * k;
-    &table[a..a + Field::ID_WIDTH]
+    same(&c[..Field::ID_WIDTH], &d[..Field::ID_WIDTH])
 }
 
 // Each pair of records is looked at, up to the first clash.
-fn ids_distinct(table: &[u8]) -> bool
-    ensures { result ≡ ids_distinct table.now }
+fn ids_distinct(entries: &[Record]) -> bool
+    ensures { result ≡ apart same_id entries.now }
 {
-    let n = record::clients(table);
     let mut clash = false;
-    let mut i = 0;
-    'search: while i < n {
-        let id = id_at(table, i);
-        let mut j = i + 1;
-        while j < n {
-            if same(id, id_at(table, j)) {
+    'search: for (i, c) in entries.iter().enumerate() {
+        for d in &entries[i + 1..] {
+            if same_id(c, d) {
                 clash = true;
                 break 'search;
             }
-            j += 1;
         }
-        i += 1;
     }
     !clash
 }
 
+#[tactic(auto, using(crate::proofs::Checks::sound_order), unfolding(crate::specs::Sound::check_table, crate::specs::Sound::ids_distinct))]
 pub fn check(table: &[u8]) -> Table
     ensures { result ≡ check_table table.now }
 {
-    if !length_right(table) {
-        return Table::Unsound;
+    let entries = record::entries(table);
+    if length_right(table) && sound_records(entries) && ids_distinct(entries) {
+        Table::Sound
+    } else {
+        Table::Unsound
     }
-    if !sound_records(table) {
-        return Table::Unsound;
-    }
-    if !ids_distinct(table) {
-        return Table::Unsound;
-    }
-    Table::Sound
 }

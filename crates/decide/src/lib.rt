@@ -11,14 +11,15 @@ ghost use Rattle.ledger.specs.Write.{consented, free};
 ghost use Rattle.desk.specs.Answers.{answer_of, answer_no};
 ghost use Rattle.desk.specs.Tests.{fails_when};
 ghost use Rattle.desk.specs.Outcome.{left_with};
+ghost use Rattle.desk.specs.Requests.{deciding};
 ghost use Rattle.desk.specs.Decide.{decide, consent_at, decline_at};
 
 use desk::answer::{Answer, Decided, Refusal};
 use desk::check;
 use desk::check::Test;
 use desk::output::hand_out;
+use desk::request::DecideRequest;
 use ledger::clock::{Timing, set_clock};
-use ledger::find::Found;
 use ledger::limit::{Code, Ledger};
 use ledger::pool::Value;
 use ledger::record::{Life, address, check_life, redirect_length};
@@ -94,17 +95,8 @@ fn decline_at(ledger: &mut [u8], k: usize, time: u64, holder: u64, out: &mut [u8
     Decided::with(answer, length)
 }
 
-pub fn decide(
-    ledger: &mut [u8],
-    time: u64,
-    reference: &[u8; 32],
-    client: &[u8; 16],
-    yes: bool,
-    holder: u64,
-    fresh: &[u8; 32],
-    out: &mut [u8],
-) -> Decided
-    ensures { left_with result ledger.new out.new ≡ decide ledger.old time (record { reference = reference.now; client = client.now; yes = yes; holder = holder; fresh = fresh.now }) out.old }
+pub fn decide(ledger: &mut [u8], time: u64, request: DecideRequest, out: &mut [u8]) -> Decided
+    ensures { left_with result ledger.new out.new ≡ decide ledger.old time (deciding request.entry) out.old }
 {
     let Soundness::Sound = soundness::check(ledger) else {
         return Decided::refused(Refusal::LedgerUnsound);
@@ -115,20 +107,20 @@ pub fn decide(
     let Test::Passed = check::room(out) else {
         return Decided::refused(Refusal::OutputShort);
     };
-    let Found::At(k) = finding::record::reference(ledger, reference, client) else {
+    let Some(k) = finding::record::reference(ledger, request.reference, request.client) else {
         return Decided::refused(Refusal::NoReference);
     };
     let Life::Alive = check_life(ledger::record::at(ledger, k), time) else {
         return Decided::refused(Refusal::RecordExpired);
     };
-    let Test::Passed = check::given(holder) else {
+    let Test::Passed = check::given(request.holder) else {
         return Decided::refused(Refusal::NoHolder);
     };
-    let Test::Passed = check_fresh(ledger, yes, fresh) else {
+    let Test::Passed = check_fresh(ledger, request.yes, request.fresh) else {
         return Decided::refused(Refusal::FreshTaken);
     };
-    if yes {
-        return consent_at(ledger, k, time, holder, fresh, out);
+    if request.yes {
+        return consent_at(ledger, k, time, request.holder, request.fresh, out);
     }
-    decline_at(ledger, k, time, holder, out)
+    decline_at(ledger, k, time, request.holder, out)
 }

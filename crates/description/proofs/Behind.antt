@@ -1,11 +1,13 @@
 -- Texts that are laid over an output one behind the other are laid as one text.
 use Prim.Native.Nat.{ℕ, zero, suc, ◌+◌}
 use native.Mathlib.Omega.{arith}
-use mathlib.Core.Path.{◌≡◌, refl, ap, ◌∙◌}
+use mathlib.Core.Path.{◌≡◌, refl, sym, ap, ◌∙◌}
 use mathlib.Core.List.{List, [], ◌∷◌, ◌++◌}
 use lib.ListN.{length, length-append}
 use Rattle.octets.specs.Parts.{laid, put}
 use Rattle.octets.proofs.Parts.{put_end}
+use Rattle.description.specs.Writer.{Wrote}
+use Rattle.description.specs.declared.writer.Writer.{Writer}
 
 put_nil : (a : ℕ) (xs : List ℕ) → put [] a xs ≡ []
 put_nil a xs = put_end [] a xs (omega arith)
@@ -33,38 +35,22 @@ put_none [] a = put_nil a []
 put_none (y ∷ l) zero = laid_none (y ∷ l)
 put_none (y ∷ l) (suc a) = ap (λ (t : List ℕ). y ∷ t) (put_none l a)
 
--- one character, then a text
-pub after_one : (l : List ℕ) (a x : ℕ) (t : List ℕ) {m y : List ℕ} {w : ℕ} → m ≡ put l a (x ∷ []) → (w ≡ length t) × (y ≡ put m (a + 1) t)
-    → (1 + w ≡ length (x ∷ t)) × (y ≡ put l a (x ∷ t))
-after_one l a x t h e = let k = e.0 in (omega arith, e.1 ∙ ap (λ (z : List ℕ). put z (a + 1) t) h ∙ put_append l a (x ∷ []) t)
-
 -- ---- one text behind another
 
--- xs is laid over l from place a on: m is what becomes of it, and b the place behind
-pub record Laid (l : List ℕ) (a : ℕ) (xs m : List ℕ) (b : ℕ) : Type 0 where
-  pub behind : b ≡ a + length xs
-  pub bytes : m ≡ put l a xs
+pub wrote_none : (v : Writer) → Wrote v v []
+wrote_none v = record { same = refl; behind = omega arith; bytes = sym (put_none v.out.now v.at) }
 
--- as a writer says it that answers the place behind
-pub ended : (l : List ℕ) (a : ℕ) (xs : List ℕ) {m : List ℕ} {b : ℕ} → (b ≡ a + length xs) × (m ≡ put l a xs) → Laid l a xs m b
-ended l a xs v = record { behind = v.0; bytes = v.1 }
+module _ {v w x : Writer} {xs ys : List ℕ} where
+  pub then : Wrote v w xs → Wrote w x ys → Wrote v x (xs ++ ys)
+  then p q =
+      let e = p.behind in
+      let f = q.behind in
+      let g = length-append xs ys in
+      record {
+        same = q.same ∙ p.same;
+        behind = omega arith;
+        bytes = q.bytes ∙ ap (λ (z : List ℕ). put z w.at ys) p.bytes ∙ ap (λ (j : ℕ). put (put v.out.now v.at xs) j ys) e ∙ put_append v.out.now v.at xs ys;
+      }
 
--- as one says it that answers how many characters the text has
-pub counted : (l : List ℕ) (a : ℕ) (xs : List ℕ) {m : List ℕ} {w : ℕ} → (w ≡ length xs) × (m ≡ put l a xs) → Laid l a xs m (a + w)
-counted l a xs v = record { behind = ap (λ (j : ℕ). a + j) v.0; bytes = v.1 }
-
-pub then : {l m n xs ys : List ℕ} {a b c : ℕ} → Laid l a xs m b → Laid m b ys n c → Laid l a (xs ++ ys) n c
-then {l} {m} {n} {xs} {ys} {a} {b} {c} p q =
-    let e = p.behind in
-    let f = q.behind in
-    let g = length-append xs ys in
-    record {
-      behind = omega arith;
-      bytes = q.bytes ∙ ap (λ (z : List ℕ). put z b ys) p.bytes ∙ ap (λ (j : ℕ). put (put l a xs) j ys) e ∙ put_append l a xs ys;
-    }
-
-pub laid_as : {l xs m : List ℕ} {a b : ℕ} → Laid l a xs m b → (b ≡ a + length xs) × (m ≡ put l a xs)
-laid_as v = (v.behind, v.bytes)
-
-pub at_front : {l xs m : List ℕ} {b : ℕ} → Laid l 0 xs m b → (b ≡ length xs) × (m ≡ put l 0 xs)
-at_front v = let e = v.behind in (omega arith, v.bytes)
+pub at_front : {v w : Writer} {xs : List ℕ} → v.at ≡ 0 → Wrote v w xs → (w.at ≡ length xs) × (w.out.now ≡ put v.out.now 0 xs)
+at_front {v} {w} {xs} z p = let e = p.behind in (omega arith, p.bytes ∙ ap (λ (j : ℕ). put v.out.now j xs) z)

@@ -44,6 +44,15 @@ pub last_member : (key : List ℕ) → cnf_member key ++ (125 ∷ []) ≡ bytes 
 unfolding cnf_member
 last_member key = rw (append_assoc (base64url key) (34 ∷ 125 ∷ []) (125 ∷ []))
 
+-- a live text as it is written: the words that stand before each value, and the value
+pub live_pieces : (d : Description) → live_text d ≡ bytes "{\"active\":true,\"client_id\":\"" ++ (hex d.client
+    ++ (bytes "\",\"sub\":\"" ++ (decimal d.holder
+    ++ (bytes "\",\"exp\":" ++ (decimal d.expiry
+    ++ (bytes ",\"scope\":\"" ++ (scope_names d.scope
+    ++ (bytes "\",\"cnf\":{\"x5t#S256\":\"" ++ (base64url d.key ++ bytes "\"}}")))))))))
+unfolding live_text client_member sub_member exp_member scope_member cnf_member
+live_pieces d = simp append_assoc
+
 pub length_live : (d : Description) → length (live_text d) ≡ 15 + (length (client_member d.client) + (1 + (length (sub_member d.holder)
     + (1 + (length (exp_member d.expiry) + (1 + (length (scope_member d.scope) + (1 + length (cnf_member d.key ++ (125 ∷ []))))))))))
 unfolding live_text

@@ -1,5 +1,5 @@
 -- Laws of the names of a scope: one name more, and how long they are together.
-use Prim.Native.Nat.{ℕ, zero, suc, ◌+◌, ◌-◌, ◌*◌, ◌^◌, ◌≤◌, ◌<◌}
+use Prim.Native.Nat.{ℕ, zero, suc, ◌+◌, ◌-◌, ◌*◌, ◌≤◌, ◌<◌}
 use native.Mathlib.Omega.{arith}
 use native.Mathlib.Numerals.{add-one}
 use mathlib.Core.Logic.{⊎_elim}
@@ -7,12 +7,13 @@ use mathlib.Core.Path.{◌≡◌, refl, sym, ap, ◌∙◌}
 use mathlib.Core.Bool.{Bool, true, false, cond}
 use mathlib.Core.List.{List, [], ◌∷◌, ◌++◌, map, append_assoc, append-nil}
 use lib.ListN.{length, length-append}
+use Rattle.std.proofs.lemmas.List.{map-append}
 use borrow.Author.Tests.{eq-eqb, ne_eqb}
-use Rattle.octets.proofs.Parts.{length_put}
 use Rattle.octets.proofs.Tests.{lt_or_le}
-use Rattle.octets.specs.Parts.{put}
-use Rattle.texts.proofs.Decimals.{length_decimal, most_in}
-use Rattle.description.proofs.Behind.{put_append, put_none}
+use Rattle.texts.proofs.Decimals.{most_in}
+use Rattle.description.proofs.Behind.{wrote_none, then}
+use Rattle.description.specs.Writer.{Wrote}
+use Rattle.description.specs.declared.writer.Writer.{Writer}
 use Rattle.description.specs.Scope.{scope_width, scope_name, is_set, bits_below, spaced, one_more, added, names_below, scope_names, scope_most}
 
 -- ---- laying one text behind another
@@ -22,10 +23,6 @@ spaced_more : (v : List ℕ) (ws : List (List ℕ)) (w : List ℕ) → spaced ((
 unfolding spaced
 spaced_more v [] w = refl
 spaced_more v (u ∷ ws) w = ap (λ (t : List ℕ). v ++ (32 ∷ t)) (spaced_more u ws w) ∙ sym (append_assoc v _ _)
-
-map_more : {A B : Type 0} (f : A → B) (xs : List A) (y : A) → map f (xs ++ (y ∷ [])) ≡ map f xs ++ (f y ∷ [])
-map_more f [] y = refl
-map_more f (x ∷ xs) y = ap (λ (t : List _). f x ∷ t) (map_more f xs y)
 
 pub length_name : (i : ℕ) → 1 ≤ length (scope_name i)
 unfolding scope_name
@@ -44,7 +41,7 @@ add_word (b ∷ bits) i =
     let l = length_spaced (scope_name b) ws in
     let k = length_name b in
     let n : length (spaced (scope_name b ∷ ws)) ≡ 0 → ⊥ = λ e. omega arith in
-    ap spaced (map_more scope_name (b ∷ bits) i) ∙ spaced_more (scope_name b) ws (scope_name i) ∙ rw (ne_eqb (length (spaced (scope_name b ∷ ws))) 0 n)
+    ap spaced (map-append scope_name (b ∷ bits) (i ∷ [])) ∙ spaced_more (scope_name b) ws (scope_name i) ∙ rw (ne_eqb (length (spaced (scope_name b ∷ ws))) 0 n)
 
 pub bits_set : (s i : ℕ) → is_set s i ≡ true → bits_below s (suc i) ≡ bits_below s i ++ (i ∷ [])
 unfolding bits_below
@@ -80,21 +77,6 @@ pub later_name : (n : ℕ) (w : List ℕ) → (n ≡ 0 → ⊥) → one_more n w
 unfolding one_more
 later_name n w e = rw (ne_eqb n 0 e)
 
-pub name_most : (i : ℕ) → i < 2 ^ 64 → length (scope_name i) ≤ 21
-unfolding scope_name
-name_most i h = omega (arith, length_decimal i h)
-
-pub added_most : (s n i : ℕ) → i < 2 ^ 64 → length (added s n i) ≤ 22
-added_most s n i h = by (is_set s i) refl
-  where
-    by : (b : Bool) → is_set s i ≡ b → length (added s n i) ≤ 22
-    by false e = rw (added_clear s n i e) (omega arith)
-    by true e =
-        let w = scope_name i in
-        let l = name_most i h in
-        rw (added_set s n i e)
-        (⊎_elim (λ z. let f = ap length (first_name n w (omega arith)) in omega arith) (λ z. let f = ap length (later_name n w (λ y. omega arith)) in omega arith) (lt_or_le n 1))
-
 -- one digit below 10, two below 100
 name_long : (i : ℕ) → i < 100 → length (scope_name i) + (i - 10) ≤ 2 + (suc i - 10)
 unfolding scope_name
@@ -124,42 +106,28 @@ length_names s = names_long s scope_width (omega arith)
 
 -- ---- a loop that writes them
 
--- the names of the bits below i are written from place a on, n characters
-pub record Named (l : List ℕ) (a s : ℕ) (out : List ℕ) (n i : ℕ) : Type 0 where
-  pub within : i ≤ scope_width
-  pub sized : n ≡ length (names_below s i)
-  pub laid : out ≡ put l a (names_below s i)
-  pub room : n ≤ scope_most
-  pub kept : length out ≡ length l
-
-named : (l : List ℕ) (a s : ℕ) {out : List ℕ} {n : ℕ} (i : ℕ) → i ≤ scope_width → n ≡ length (names_below s i) → out ≡ put l a (names_below s i) → Named l a s out n i
-named l a s i w z e =
-    record { within = w; sized = z; laid = e; room = omega (arith, names_long s i (omega arith)); kept = ap length e ∙ length_put l a (names_below s i) }
-
-pub named_none : (l : List ℕ) (a s : ℕ) → Named l a s l 0 0
-unfolding names_below bits_below spaced
-named_none l a s = named l a s 0 (omega arith) refl (sym (put_none l a))
-
-module _ (l : List ℕ) (a s : ℕ) (out : List ℕ) (n i : ℕ) (v : Named l a s out n i) where
+module _ (s n i : ℕ) (sized : n ≡ length (names_below s i)) where
   names_added : names_below s (suc i) ≡ names_below s i ++ added s n i
   unfolding added
   names_added = by (is_set s i) refl
     where
       by : (b : Bool) → is_set s i ≡ b → names_below s (suc i) ≡ names_below s i ++ cond b (one_more n (scope_name i)) []
-      by true e = rw v.sized (names_set s i e)
+      by true e = rw sized (names_set s i e)
       by false e = names_clear s i e ∙ sym (append-nil (names_below s i))
 
-  pub named_more : {w : ℕ} {y : List ℕ} → i < scope_width → (w ≡ length (added s n i)) × (y ≡ put out (a + n) (added s n i)) → Named l a s y (n + w) (i + 1)
-  named_more {w} {y} h p =
-      let k = names_below s i in
-      let t = added s n i in
-      let g = names_added in
-      let z = v.sized in
-      let e = p.0 in
-      rw add-one
-      (named l a s (suc i) (omega arith) (rw g (rw (length-append k t) (omega arith)))
-      (p.1 ∙ ap (λ (x : List ℕ). put x (a + n) t) v.laid ∙ ap (λ (j : ℕ). put (put l a k) (a + j) t) z ∙ put_append l a k t ∙ ap (put l a) (sym g)))
+-- a writer has written the names of the bits below i
+pub named_none : (v : Writer) (s : ℕ) → Wrote v v (names_below s 0)
+unfolding names_below bits_below spaced
+named_none v s = wrote_none v
 
-  pub named_all : scope_width ≤ i → (n ≡ length (scope_names s)) × (out ≡ put l a (scope_names s))
-  unfolding scope_names
-  named_all h = let w = v.within in let e : i ≡ scope_width = omega arith in (rw (← e) v.sized, rw (← e) v.laid)
+pub named_most : {v w : Writer} (s i : ℕ) → Wrote v w (names_below s i) → i ≤ scope_width → (v.at ≤ w.at) × (w.at ≤ v.at + scope_most)
+named_most s i p h = let e = p.behind in (omega arith, omega (arith, names_long s i (omega arith)))
+
+pub named_more : {v w x : Writer} (s i : ℕ) → Wrote v w (names_below s i) → Wrote w x (added s (w.at - v.at) i) → Wrote v x (names_below s (i + 1))
+named_more {v} {w} s i p q =
+    let e = p.behind in
+    rw (add-one, names_added s (w.at - v.at) i (omega arith)) (then p q)
+
+pub named_all : {v w : Writer} (s i : ℕ) → Wrote v w (names_below s i) → i ≡ scope_width → Wrote v w (scope_names s)
+unfolding scope_names
+named_all s i p e = rw (← e) p

@@ -5,6 +5,7 @@ use Rattle.texts.specs.Decimal.{decimal}
 use Rattle.texts.specs.Base64url.{base64url}
 use Rattle.description.specs.Literal.{bytes}
 use Rattle.description.specs.Scope.{scope_names}
+use Rattle.description.specs.declared.Description.{Description as LentDescription}
 
 pub record Description : Type 0 where
   pub client : List ℕ
@@ -15,6 +16,10 @@ pub record Description : Type 0 where
 
 abbrev pub described : List ℕ → ℕ → ℕ → ℕ → List ℕ → Description
 described client holder expiry scope key = record { client = client; holder = holder; expiry = expiry; scope = scope; key = key }
+
+-- the same as the code lends it
+abbrev pub telling : LentDescription → Description
+telling d = described d.client.now d.holder d.expiry d.scope d.key.now
 
 -- "client_id (32 lower-case hex digits)"
 unfoldable pub client_member : List ℕ → List ℕ

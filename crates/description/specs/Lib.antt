@@ -3,4 +3,5 @@ pub mod Literal
 pub mod Scope
 pub mod Description
 pub mod Writing
+pub mod Writer
 pub mod Apart

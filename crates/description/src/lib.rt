@@ -1,28 +1,30 @@
-// Description: the text that describes a live token to the figure servers (document 02, Q-1): one JSON object, written member by member. It rests on
-// texts for hexadecimal, decimal and base64url.
+// Description: the text that describes a live token to the figure servers (document 02, Q-1): one JSON object, written piece by piece. It rests on texts
+// for hexadecimal, decimal and base64url.
 #![tactic(auto)]
 
 ghost use Rattle.std.specs.Prelude.{◌≡◌, ◌+◌, ◌*◌, ◌<◌, ◌^◌, leb, length};
 ghost use Rattle.octets.specs.Parts.{put};
-ghost use Rattle.description.specs.Description.{described, live_text, inactive_text};
+ghost use Rattle.description.specs.Description.{telling, live_text, inactive_text};
 ghost use Rattle.description.specs.Apart.{live_most, widest_most};
 ghost use Rattle.description.specs.Writing.{written, written_over};
 
 use octets::part::put;
+use writer::Writer;
 
-mod member;
 mod scope;
+mod writer;
 
+// What a live token is described by, lent.
 #[derive(Clone, Copy)]
-pub enum Written {
-    Length(usize),
-    Short,
+pub struct Description<'a> {
+    pub client: &'a [u8],
+    pub holder: u64,
+    pub expiry: u64,
+    pub scope: u32,
+    pub key: &'a [u8],
 }
 
-#[derive(Clone, Copy)]
-pub struct Description {}
-
-impl Description {
+impl<'a> Description<'a> {
     // The longest text of a sound record; most and widest say the same numbers as the definitions.
     pub const MOST: usize = 304;
 
@@ -43,15 +45,23 @@ impl Description {
 }
 
 // The live text over the front of the output, as far as there is room; answers how long it is.
-fn spell(out: &mut [u8], client: &[u8], holder: u64, expiry: u64, scope: u32, key: &[u8]) -> usize
-    requires { 2 * length client.now + length key.now < 2 ^ 63 }
-    ensures { (result ≡ length (live_text (described client.now holder expiry scope key.now))) × (out.new ≡ put out.old 0 (live_text (described client.now holder expiry scope key.now))) }
+fn spell(out: &mut [u8], d: Description) -> usize
+    requires { 2 * length d.client.now + length d.key.now < 2 ^ 63 }
+    ensures { (result ≡ length (live_text (telling d.entry))) × (out.new ≡ put out.old 0 (live_text (telling d.entry))) }
 {
-    let at = member::client(out, 0, client);
-    let at = member::sub(out, at, holder);
-    let at = member::exp(out, at, expiry);
-    let at = member::scope(out, at, scope);
-    member::cnf(out, at, key)
+    let mut writer = Writer { out, at: 0 };
+    writer.text(b"{\"active\":true,\"client_id\":\"");
+    writer.hex(d.client);
+    writer.text(b"\",\"sub\":\"");
+    writer.decimal(d.holder);
+    writer.text(b"\",\"exp\":");
+    writer.decimal(d.expiry);
+    writer.text(b",\"scope\":\"");
+    writer.scope(d.scope);
+    writer.text(b"\",\"cnf\":{\"x5t#S256\":\"");
+    writer.base64url(d.key);
+    writer.text(b"\"}}");
+    writer.at
 }
 
 // Whether the digits of the client and the bytes of the key alone have room: where not, the text has none either, and its length may be past a usize.
@@ -62,35 +72,27 @@ fn has_room(room: usize, client: usize, key: usize) -> bool
     2 * client <= room && key <= room - 2 * client
 }
 
-pub fn live(
-    out: &mut [u8],
-    client: &[u8],
-    holder: u64,
-    expiry: u64,
-    scope: u32,
-    key: &[u8],
-) -> Written
-    ensures { (result ≡ written (live_text (described client.now holder expiry scope key.now)) out.old) × (out.new ≡ written_over (live_text (described client.now holder expiry scope key.now)) out.old) }
+pub fn live(out: &mut [u8], d: Description) -> Option<usize>
+    ensures { (result ≡ written (live_text (telling d.entry)) out.old) × (out.new ≡ written_over (live_text (telling d.entry)) out.old) }
 {
-    if !has_room(out.len(), client.len(), key.len()) {
-        return Written::Short;
+    if !has_room(out.len(), d.client.len(), d.key.len()) {
+        return None;
     }
-    let mut none = [0u8; 0];
-    let n = spell(&mut none, client, holder, expiry, scope, key);
+    let n = spell(&mut [], d);
     if out.len() < n {
-        return Written::Short;
+        return None;
     }
-    spell(out, client, holder, expiry, scope, key);
-    Written::Length(n)
+    spell(out, d);
+    Some(n)
 }
 
-pub fn inactive(out: &mut [u8]) -> Written
+pub fn inactive(out: &mut [u8]) -> Option<usize>
     ensures { (result ≡ written inactive_text out.old) × (out.new ≡ written_over inactive_text out.old) }
 {
     let what = b"{\"active\":false}";
     if out.len() < what.len() {
-        return Written::Short;
+        return None;
     }
     put(out, 0, what);
-    Written::Length(what.len())
+    Some(what.len())
 }

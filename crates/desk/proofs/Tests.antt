@@ -1,14 +1,14 @@
 -- What the answers of the checks say of the table's conditions.
+use Rattle.std.specs.Prelude.{Option, Some}
+use Rattle.std.specs.Option.{is_some, unwrap_or}
 use Prim.Native.Nat.{ℕ}
 use mathlib.Core.Path.{◌≡◌, refl, ap, ◌∙◌}
-use mathlib.Core.Bool.{Bool, true, false, not, ◌&&◌}
+use mathlib.Core.Bool.{Bool, true, false, not, ◌&&◌, false≢true}
 use mathlib.Core.List.{List}
-use native.Mathlib.Omega.{arith}
+use Rattle.octets.proofs.Tests.{some_told, some_is}
 use Rattle.forms.specs.Forms.{redirect_formed, challenge_formed}
 use Rattle.clients.specs.Known.{is_known, place_of, known}
 use Rattle.clients.specs.Sound.{sound as table_sound, check_table}
-use Rattle.clients.specs.declared.known.Known.{Known}
-use Rattle.clients.specs.declared.known.Known.TheVariants.{At, Unknown}
 use Rattle.clients.specs.declared.table.Table.{Table}
 use Rattle.clients.specs.declared.table.Table.TheVariants.{Sound, Unsound}
 use Rattle.desk.specs.Tests.{fails_when, texts_test, scope_decision}
@@ -16,8 +16,6 @@ use Rattle.desk.specs.Push.{granted_bits}
 use Rattle.desk.specs.Checks.{scope_fits}
 use Rattle.desk.specs.declared.check.Test.{Test}
 use Rattle.desk.specs.declared.check.Test.TheVariants.{Passed, Failed}
-use Rattle.desk.specs.declared.check.Bits.{Bits}
-use Rattle.desk.specs.declared.check.Bits.TheVariants.{Granted, Outside}
 
 abbrev is_failed : Test → Bool
 is_failed Passed = false
@@ -40,29 +38,21 @@ table_told t a e = go (table_sound t) refl
     go true s = s ∙ ap is_sound (rw s at e)
     go false s = s ∙ ap is_sound (rw s at e)
 
-abbrev is_at : Known → Bool
-is_at (At k) = true
-is_at Unknown = false
-
-abbrev place_in : Known → ℕ
-place_in (At k) = k
-place_in Unknown = 0
-
-pub known_told : (t v key : List ℕ) (a : Known) → known t v key ≡ a → is_known t v key ≡ is_at a
+pub known_told : (t v key : List ℕ) (a : Option ℕ) → known t v key ≡ a → is_known t v key ≡ is_some a
 unfolding known
 known_told t v key a e = go (is_known t v key) refl
   where
-    go : (b : Bool) → is_known t v key ≡ b → is_known t v key ≡ is_at a
-    go true s = s ∙ ap is_at (rw s at e)
-    go false s = s ∙ ap is_at (rw s at e)
+    go : (b : Bool) → is_known t v key ≡ b → is_known t v key ≡ is_some a
+    go true s = s ∙ ap is_some (rw s at e)
+    go false s = s ∙ ap is_some (rw s at e)
 
-pub known_place : (t v key : List ℕ) (k : ℕ) → known t v key ≡ At k → place_of t v ≡ k
+pub known_place : (t v key : List ℕ) (k : ℕ) → known t v key ≡ Some k → place_of t v ≡ k
 unfolding known
 known_place t v key k e = go (is_known t v key) refl
   where
     go : (b : Bool) → is_known t v key ≡ b → place_of t v ≡ k
-    go true s = ap place_in (rw s at e)
-    go false s = let n : Unknown ≡ At k = rw s at e in let z : ◌≡◌ {A = ℕ} 0 1 = cc in absurd (omega arith)
+    go true s = ap (λ (a : Option ℕ). unwrap_or a 0) (rw s at e)
+    go false s = absurd (false≢true (ap is_some (rw s at e)))
 
 pub texts_told : (r c : List ℕ) (a : Test) → texts_test r c ≡ a → (redirect_formed r && challenge_formed c) ≡ not (is_failed a)
 unfolding texts_test
@@ -72,26 +62,10 @@ texts_told r c a e = go (redirect_formed r && challenge_formed c) refl (told (no
     go true s f = s ∙ ap not (rw s at f)
     go false s f = s ∙ ap not (rw s at f)
 
-abbrev is_granted : Bits → Bool
-is_granted (Granted n) = true
-is_granted Outside = false
-
-abbrev bits_in : Bits → ℕ
-bits_in (Granted n) = n
-bits_in Outside = 0
-
-pub scope_told : (asked given : ℕ) (a : Bits) → scope_decision asked given ≡ a → scope_fits asked given ≡ is_granted a
+pub scope_told : (asked given : ℕ) (a : Option ℕ) → scope_decision asked given ≡ a → scope_fits asked given ≡ is_some a
 unfolding scope_decision
-scope_told asked given a e = go (scope_fits asked given) refl
-  where
-    go : (b : Bool) → scope_fits asked given ≡ b → scope_fits asked given ≡ is_granted a
-    go true s = s ∙ ap is_granted (rw s at e)
-    go false s = s ∙ ap is_granted (rw s at e)
+scope_told asked given a e = some_told _ _ a e
 
-pub scope_bits : (asked given n : ℕ) → scope_decision asked given ≡ Granted n → granted_bits asked given ≡ n
+pub scope_bits : (asked given n : ℕ) → scope_decision asked given ≡ Some n → granted_bits asked given ≡ n
 unfolding scope_decision
-scope_bits asked given n e = go (scope_fits asked given) refl
-  where
-    go : (b : Bool) → scope_fits asked given ≡ b → granted_bits asked given ≡ n
-    go true s = ap bits_in (rw s at e)
-    go false s = let z : Outside ≡ Granted n = rw s at e in let y : ◌≡◌ {A = ℕ} 0 1 = cc in absurd (omega arith)
+scope_bits asked given n e = some_is _ _ n e

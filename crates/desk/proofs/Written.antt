@@ -1,4 +1,5 @@
 -- What is written once a call's record is found, as the code lends it.
+use Rattle.std.specs.Prelude.{Some}
 use Prim.Native.Nat.{ℕ, ◌+◌, ◌-◌, ◌%◌, ◌<◌, ◌^◌}
 use native.Mathlib.Omega.{arith}
 use mathlib.Core.Path.{◌≡◌, sym, ap, ◌∙◌}
@@ -13,7 +14,6 @@ use Rattle.ledger.specs.Limits.{record_size, code_lifetime, token_lifetime, last
 use Rattle.ledger.specs.Fields.{address, rec, slots, records, clock, next_number, grant, redirect_length, with_record, with_next, with_clock}
 use Rattle.ledger.specs.Checks.{untimely, found}
 use Rattle.ledger.specs.Write.{pushed, consented, redeemed, free}
-use Rattle.ledger.specs.declared.find.Found.TheVariants.{At}
 use Rattle.ledger.proofs.Records.{length_records, rec_length, lent_out, lent_back}
 use Rattle.ledger.proofs.Tests.{found_told, found_place}
 use Rattle.clients.specs.Fields.{permitted}
@@ -31,9 +31,9 @@ use Rattle.desk.specs.declared.answer.Decided.{Decided}
 use Rattle.desk.specs.declared.answer.Swept.{Swept}
 
 -- what is found is a place in the ledger
-pub found_inside : (q : List ℕ → Bool) (l : List ℕ) (k : ℕ) → found q l ≡ At k → k < slots l
+pub found_inside : (q : List ℕ → Bool) (l : List ℕ) (k : ℕ) → found q l ≡ Some k → k < slots l
 found_inside q l k e =
-    let s = found_told q l (At k) e in
+    let s = found_told q l (Some k) e in
     let p = place_lt q (records l) s in
     rw (← found_place q l k e, ← length_records l) p
 

@@ -1,5 +1,5 @@
 -- "Resource (token, presented key, scope asked, holder asked): 17, 11, 18, 6, 19. Only the clock changes. The client table is not read."
-use Rattle.std.specs.Prelude.{ℕ, not, List, [], ◌∷◌, eqb}
+use Rattle.std.specs.Prelude.{ℕ, not, List, [], ◌∷◌, eqb, Result, Ok, Err}
 use Rattle.octets.specs.Lists.{some, place}
 use Rattle.octets.specs.Parts.{same}
 use Rattle.ledger.specs.Fields.{records, rec, scope, holder, bound_key, with_clock}
@@ -11,8 +11,6 @@ use Rattle.desk.specs.Requests.{ResourceRequest}
 use Rattle.desk.specs.declared.answer.Answer.{Answer}
 use Rattle.desk.specs.declared.answer.Refusal.{Refusal}
 use Rattle.desk.specs.declared.answer.Refusal.TheVariants.{ScopeRefused, RecordExpired, NoToken, KeyDiffers, HolderDiffers}
-use Rattle.desk.specs.declared.answer.Reading.{Reading}
-use Rattle.desk.specs.declared.answer.Reading.TheVariants.{Granted, Refused}
 
 -- where the record in state 3 with this token is
 abbrev pub token_place : List ℕ → ResourceRequest → ℕ
@@ -30,11 +28,11 @@ resource_checks l t q k =
     ∷ [])
 
 -- the looking half: what is read and answered, with nothing written
-abbrev pub read_by : Verdict → List ℕ → Reading
-read_by accepted r = Granted (answer_of r)
-read_by (stopped why) r = Refused why
+abbrev pub read_by : Verdict → List ℕ → Result Answer Refusal
+read_by accepted r = Ok (answer_of r)
+read_by (stopped why) r = Err why
 
-unfoldable pub look : List ℕ → ℕ → ResourceRequest → Reading
+unfoldable pub look : List ℕ → ℕ → ResourceRequest → Result Answer Refusal
 look l t q = read_by (first (resource_checks l t q (token_place l q))) (rec l (token_place l q))
 
 -- each row: "A refusal has zeros beside its number and changes no lent byte, clock included."
@@ -42,9 +40,9 @@ abbrev pub resource_leaves : List ℕ → Refusal → Outcome Answer
 resource_leaves l why = left (refused why) l
 
 -- the call: "the clock becomes now" where the reading is granted
-abbrev pub resource_by : Reading → List ℕ → ℕ → Outcome Answer
-resource_by (Granted a) l t = left a (with_clock t l)
-resource_by (Refused why) l t = resource_leaves l why
+abbrev pub resource_by : Result Answer Refusal → List ℕ → ℕ → Outcome Answer
+resource_by (Ok a) l t = left a (with_clock t l)
+resource_by (Err why) l t = resource_leaves l why
 
 unfoldable pub resource : List ℕ → ℕ → ResourceRequest → Outcome Answer
 resource l t q = resource_by (look l t q) l t

@@ -1,4 +1,4 @@
-// The answers, and the rows of the table "Numbers returned".
+// The answers, and the rows of the table "Numbers returned", each with its number.
 ghost use Rattle.std.specs.Prelude.{◌≡◌};
 ghost use Rattle.desk.specs.Answers.{number_of, answer_of, answer_no, refused, decided, undecided, swept_of, unswept, introspected, untold};
 
@@ -7,54 +7,33 @@ use ledger::sweep::Freed;
 
 #[derive(Clone, Copy)]
 pub enum Refusal {
-    LedgerUnsound,
-    TimeWrong,
-    TableUnsound,
-    ClientUnknown,
-    IllFormed,
-    ScopeRefused,
-    FreshTaken,
-    LedgerFull,
-    NumbersSpent,
-    NoReference,
-    RecordExpired,
-    NoHolder,
-    NoKey,
-    NoCode,
-    CodeRedeemed,
-    VerifierDiffers,
-    NoToken,
-    KeyDiffers,
-    HolderDiffers,
-    OutputShort,
+    LedgerUnsound = 1,
+    TimeWrong = 2,
+    TableUnsound = 3,
+    ClientUnknown = 4,
+    IllFormed = 5,
+    ScopeRefused = 6,
+    FreshTaken = 7,
+    LedgerFull = 8,
+    NumbersSpent = 9,
+    NoReference = 10,
+    RecordExpired = 11,
+    NoHolder = 12,
+    NoKey = 13,
+    NoCode = 14,
+    CodeRedeemed = 15,
+    VerifierDiffers = 16,
+    NoToken = 17,
+    KeyDiffers = 18,
+    HolderDiffers = 19,
+    OutputShort = 20,
 }
 
-impl Refusal {
-    pub fn number(self) -> u8
-        ensures { result ≡ number_of self }
-    {
-        match self {
-            Refusal::LedgerUnsound => 1,
-            Refusal::TimeWrong => 2,
-            Refusal::TableUnsound => 3,
-            Refusal::ClientUnknown => 4,
-            Refusal::IllFormed => 5,
-            Refusal::ScopeRefused => 6,
-            Refusal::FreshTaken => 7,
-            Refusal::LedgerFull => 8,
-            Refusal::NumbersSpent => 9,
-            Refusal::NoReference => 10,
-            Refusal::RecordExpired => 11,
-            Refusal::NoHolder => 12,
-            Refusal::NoKey => 13,
-            Refusal::NoCode => 14,
-            Refusal::CodeRedeemed => 15,
-            Refusal::VerifierDiffers => 16,
-            Refusal::NoToken => 17,
-            Refusal::KeyDiffers => 18,
-            Refusal::HolderDiffers => 19,
-            Refusal::OutputShort => 20,
-        }
+impl From<Refusal> for u8 {
+    ghost from_gives = { λ why number. number ≡ number_of why };
+
+    fn from(why: Refusal) -> u8 {
+        why as u8
     }
 }
 
@@ -89,8 +68,8 @@ impl Answer {
     {
         Answer {
             number: Answer::DONE,
-            grant: grant,
-            holder: holder,
+            grant,
+            holder,
             scope: 0,
             expiry: 0,
         }
@@ -100,7 +79,7 @@ impl Answer {
         ensures { result ≡ refused why }
     {
         Answer {
-            number: why.number(),
+            number: u8::from(why),
             grant: 0,
             holder: 0,
             scope: 0,
@@ -119,10 +98,7 @@ impl Decided {
     pub fn with(answer: Answer, length: u8) -> Decided
         ensures { result ≡ decided answer length }
     {
-        Decided {
-            answer: answer,
-            length: length,
-        }
+        Decided { answer, length }
     }
 
     pub fn refused(why: Refusal) -> Decided
@@ -159,7 +135,7 @@ impl Swept {
         ensures { result ≡ unswept why }
     {
         Swept {
-            number: why.number(),
+            number: u8::from(why),
             pushed: 0,
             consented: 0,
             redeemed: 0,
@@ -179,7 +155,7 @@ impl Introspected {
     {
         Introspected {
             number: Answer::DONE,
-            length: length,
+            length,
         }
     }
 
@@ -187,15 +163,8 @@ impl Introspected {
         ensures { result ≡ untold why }
     {
         Introspected {
-            number: why.number(),
+            number: u8::from(why),
             length: 0,
         }
     }
-}
-
-// What resource's looking half answers.
-#[derive(Clone, Copy)]
-pub enum Reading {
-    Granted(Answer),
-    Refused(Refusal),
 }

@@ -21,40 +21,31 @@ pub enum Test {
     Failed,
 }
 
-// What push's scope decision answers: the bits to store, or none.
-#[derive(Clone, Copy)]
-pub enum Bits {
-    Granted(u32),
-    Outside,
+// A check fails where its row's condition holds.
+fn fails_when(fails: bool) -> Test
+    ensures { result ≡ fails_when fails }
+{
+    if fails { Test::Failed } else { Test::Passed }
 }
 
 fn fits(asked: u32, given: u32) -> bool
     ensures { result ≡ scope_fits asked given }
 {
-    if asked == 0 {
-        return false;
-    }
-    asked & given == asked
+    asked != 0 && asked & given == asked
 }
 
-// Check 6 of push, by the permitted bits.
-pub fn granted(asked: u32, permitted: u32) -> Bits
+// Check 6 of push, by the permitted bits: the bits to store, or none.
+pub fn granted(asked: u32, permitted: u32) -> Option<u32>
     ensures { result ≡ scope_decision asked permitted }
 {
-    if fits(asked, permitted) {
-        return Bits::Granted(asked);
-    }
-    Bits::Outside
+    fits(asked, permitted).then_some(asked)
 }
 
 // Check 6 of resource, by the granted bits.
 pub fn within(asked: u32, granted: u32) -> Test
     ensures { result ≡ fails_when (not (scope_fits asked granted)) }
 {
-    if fits(asked, granted) {
-        return Test::Passed;
-    }
-    Test::Failed
+    fails_when(!fits(asked, granted))
 }
 
 // The redirect and the challenge of check 5.
@@ -74,68 +65,47 @@ pub fn texts(redirect: &[u8], challenge: &[u8]) -> Test
 pub fn number(next: u64) -> Test
     ensures { result ≡ fails_when (eqb next last_number) }
 {
-    if next == Grant::LAST {
-        return Test::Failed;
-    }
-    Test::Passed
+    fails_when(next == Grant::LAST)
 }
 
 // Check 12.
 pub fn given(holder: u64) -> Test
     ensures { result ≡ fails_when (eqb holder 0) }
 {
-    if holder == 0 {
-        return Test::Failed;
-    }
-    Test::Passed
+    fails_when(holder == 0)
 }
 
 // Check 13.
 pub fn key(presented: &[u8; 32]) -> Test
     ensures { result ≡ fails_when (zeros presented.now) }
 {
-    if is_zero(presented) {
-        return Test::Failed;
-    }
-    Test::Passed
+    fails_when(is_zero(presented))
 }
 
 // Check 15, of a record that check 14 found.
 pub fn unredeemed(r: &[u8]) -> Test
     ensures { result ≡ fails_when (in_state Redeemed r.now) }
 {
-    if is_in(r, State::Redeemed) {
-        return Test::Failed;
-    }
-    Test::Passed
+    fails_when(is_in(r, State::Redeemed))
 }
 
 // Check 18: it is the bound key that counts.
 pub fn bound(r: &[u8], presented: &[u8; 32]) -> Test
     ensures { result ≡ fails_when (not (same (bound_key r.now) presented.now)) }
 {
-    if same(bound_key(r), presented) {
-        return Test::Passed;
-    }
-    Test::Failed
+    fails_when(!same(bound_key(r), presented))
 }
 
 // Check 19.
 pub fn held(r: &[u8], asked: u64) -> Test
     ensures { result ≡ fails_when (not (eqb (holder r.now) asked)) }
 {
-    if holder(r) == asked {
-        return Test::Passed;
-    }
-    Test::Failed
+    fails_when(holder(r) != asked)
 }
 
 // Check 20.
 pub fn room(out: &[u8]) -> Test
     ensures { result ≡ fails_when (ltb (length out.now) output_least) }
 {
-    if out.len() < Redirect::MOST {
-        return Test::Failed;
-    }
-    Test::Passed
+    fails_when(out.len() < Redirect::MOST)
 }

@@ -6,3 +6,4 @@
 pub mod answer;
 pub mod check;
 pub mod output;
+pub mod request;

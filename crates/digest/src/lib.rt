@@ -14,6 +14,7 @@ pub struct Digest {
 pub extern "C" fn perdigolh_digest(message: &[u8]) -> Digest
     ensures { result.bytes ≡ sha256 message.now }
 {
-    let bytes = sha256::digest(message);
-    Digest { bytes: bytes }
+    Digest {
+        bytes: sha256::digest(message),
+    }
 }

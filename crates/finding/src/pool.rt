@@ -6,31 +6,22 @@ ghost use Rattle.ledger.specs.Sound.{holds};
 ghost use Rattle.ledger.specs.Checks.{check_value};
 
 use ledger::pool::{Value, holds};
-use ledger::record::{at, slots};
+use ledger::record::records;
 use octets::part::is_zero;
 
 fn has(l: &[u8], v: &[u8]) -> bool
     ensures { result ≡ some (holds v.now) (records l.now) }
 {
-    let n = slots(l);
-    let mut k = 0;
-    while k < n {
-        if holds(v, at(l, k)) {
-            return true;
-        }
-        k += 1;
-    }
-    false
+    records(l).iter().any(|r| holds(v, r))
 }
 
+#[tactic(auto, unfolding(ledger::specs::Checks::check_value, ledger::specs::Checks::taken))]
 pub fn check(l: &[u8], v: &[u8; 32]) -> Value
     ensures { result ≡ check_value l.now v.now }
 {
-    if is_zero(v) {
-        return Value::Taken;
+    if is_zero(v) || has(l, v) {
+        Value::Taken
+    } else {
+        Value::New
     }
-    if has(l, v) {
-        return Value::Taken;
-    }
-    Value::New
 }

@@ -1,109 +1,82 @@
-// Finding a record: the first, in ledger order, of the kind that a call asks for.
-ghost use Rattle.std.specs.Prelude.{◌≡◌, ◌<◌};
-ghost use Rattle.ledger.specs.Fields.{slots};
-ghost use Rattle.ledger.specs.Checks.{found, wanted, is_free, is_with, is_reference, is_code, is_token};
+// Finding a record: the first, in ledger order, that a call asks for.
+ghost use Rattle.std.specs.Prelude.{◌≡◌, ℕ, Bool, List};
+ghost use Rattle.std.specs.Fn.{FnReturnsAt};
+ghost use Rattle.octets.specs.Lists.{Computes};
+ghost use Rattle.ledger.specs.Checks.{found, is_free, is_with, is_reference, is_code, is_token};
 
-use ledger::find::{Found, Kind};
 use ledger::record;
-use ledger::record::{at, slots};
+use ledger::record::{Record, records};
 use ledger::state::{State, is_in};
 use octets::part::same;
 
-fn is_free(r: &[u8]) -> bool
+#[tactic(auto, unfolding(ledger::specs::Checks::is_free))]
+fn is_free(r: &Record) -> bool
     ensures { result ≡ is_free r.now }
 {
     is_in(r, State::Free)
 }
 
 // Whether the record has this value and this client id.
-fn is_with(r: &[u8], v: &[u8; 32], id: &[u8; 16]) -> bool
+#[tactic(auto, unfolding(ledger::specs::Checks::is_with))]
+fn is_with(r: &Record, v: &[u8; 32], id: &[u8; 16]) -> bool
     ensures { result ≡ is_with v.now id.now r.now }
 {
-    if !same(record::value(r), v) {
-        return false;
-    }
-    same(record::client(r), id)
+    same(record::value(r), v) && same(record::client(r), id)
 }
 
-fn is_reference(r: &[u8], v: &[u8; 32], id: &[u8; 16]) -> bool
+#[tactic(auto, unfolding(ledger::specs::Checks::is_reference))]
+fn is_reference(r: &Record, v: &[u8; 32], id: &[u8; 16]) -> bool
     ensures { result ≡ is_reference v.now id.now r.now }
 {
-    if !is_in(r, State::Pushed) {
-        return false;
-    }
-    is_with(r, v, id)
+    is_in(r, State::Pushed) && is_with(r, v, id)
 }
 
-fn is_code(r: &[u8], v: &[u8; 32], id: &[u8; 16]) -> bool
+#[tactic(auto, unfolding(ledger::specs::Checks::is_code))]
+fn is_code(r: &Record, v: &[u8; 32], id: &[u8; 16]) -> bool
     ensures { result ≡ is_code v.now id.now r.now }
 {
-    if is_in(r, State::Consented) {
-        return is_with(r, v, id);
-    }
-    if is_in(r, State::Redeemed) {
-        return is_with(r, v, id);
-    }
-    false
+    (is_in(r, State::Consented) || is_in(r, State::Redeemed)) && is_with(r, v, id)
 }
 
-fn is_token(r: &[u8], v: &[u8; 32]) -> bool
+#[tactic(auto, unfolding(ledger::specs::Checks::is_token))]
+fn is_token(r: &Record, v: &[u8; 32]) -> bool
     ensures { result ≡ is_token v.now r.now }
 {
-    if !is_in(r, State::Redeemed) {
-        return false;
-    }
-    same(record::token(r), v)
+    is_in(r, State::Redeemed) && same(record::token(r), v)
 }
 
-fn is_wanted(r: &[u8], kind: Kind, v: &[u8; 32], id: &[u8; 16]) -> bool
-    ensures { result ≡ wanted kind v.now id.now r.now }
+// The place of the first record that is wanted.
+fn first<F: Fn(&Record) -> bool>(l: &[u8], is_wanted: F) -> Option<usize>
+    requires { F.IsAlwaysCallable is_wanted }
+    ensures { (q : List ℕ → Bool) → Computes (FnReturnsAt F.Fn is_wanted) q → result ≡ found q l.now }
 {
-    match kind {
-        Kind::Vacant => is_free(r),
-        Kind::Reference => is_reference(r, v, id),
-        Kind::Code => is_code(r, v, id),
-        Kind::Token => is_token(r, v),
-    }
-}
-
-fn find(l: &[u8], kind: Kind, v: &[u8; 32], id: &[u8; 16]) -> Found
-    ensures { result ≡ found (wanted kind v.now id.now) l.now }
-{
-    let n = slots(l);
-    let mut k = 0;
-    while k < n {
-        if is_wanted(at(l, k), kind, v, id) {
-            return Found::At(k);
-        }
-        k += 1;
-    }
-    Found::Nothing
+    records(l).iter().position(is_wanted)
 }
 
 // For check 8.
-pub fn free(l: &[u8]) -> Found
+pub fn free(l: &[u8]) -> Option<usize>
     ensures { result ≡ found is_free l.now }
 {
-    find(l, Kind::Vacant, &[0; 32], &[0; 16])
+    first(l, is_free)
 }
 
 // For check 10.
-pub fn reference(l: &[u8], v: &[u8; 32], id: &[u8; 16]) -> Found
+pub fn reference(l: &[u8], v: &[u8; 32], id: &[u8; 16]) -> Option<usize>
     ensures { result ≡ found (is_reference v.now id.now) l.now }
 {
-    find(l, Kind::Reference, v, id)
+    first(l, |r| is_reference(r, v, id))
 }
 
 // For checks 14 and 15.
-pub fn code(l: &[u8], v: &[u8; 32], id: &[u8; 16]) -> Found
+pub fn code(l: &[u8], v: &[u8; 32], id: &[u8; 16]) -> Option<usize>
     ensures { result ≡ found (is_code v.now id.now) l.now }
 {
-    find(l, Kind::Code, v, id)
+    first(l, |r| is_code(r, v, id))
 }
 
 // For check 17.
-pub fn token(l: &[u8], v: &[u8; 32]) -> Found
+pub fn token(l: &[u8], v: &[u8; 32]) -> Option<usize>
     ensures { result ≡ found (is_token v.now) l.now }
 {
-    find(l, Kind::Token, v, &[0; 16])
+    first(l, |r| is_token(r, v))
 }

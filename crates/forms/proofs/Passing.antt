@@ -1,38 +1,28 @@
--- A loop that looks at every byte and keeps whether all passed so far.
-use Prim.Native.Nat.{ℕ, ◌+◌, ◌<◌, ◌≤◌}
-use native.Mathlib.Numerals.{add-one}
-use native.Mathlib.Omega.{arith}
-use mathlib.Core.Path.{◌≡◌, refl, sym, ◌∙◌}
-use mathlib.Core.Bool.{Bool, true, false, ◌&&◌}
-use mathlib.Core.List.{List}
-use lib.ListN.{length, get_or, drop}
-use lib.Seq.{drop-cons}
+-- What std says of a fold over every byte and of a text's beginning, in the words of Forms.
+use Rattle.std.proofs.Common.{◌≡◌, ℕ, Bool, ◌&&◌, List, [], ◌∷◌, ◌++◌, length, take, eqb, arith, refl, sym}
+use Rattle.std.proofs.lemmas.Bool.Decides.{nat_tests}
+use Rattle.std.specs.Cmp.Lexicographic.{pointwise}
+use mathlib.Core.Bool.{and_assoc, and-true}
 use Rattle.octets.specs.Lists.{every}
-use Rattle.octets.proofs.Lists.{every_end}
+use Rattle.octets.specs.Parts.{same}
+use Rattle.forms.specs.Limits.{redirect_prefix}
+use Rattle.forms.specs.Forms.{begins}
 
--- ok tells whether the first i bytes pass
-pub record Passing (q : ℕ → Bool) (s : List ℕ) (ok : Bool) (i : ℕ) : Type 0 where
-  pub within : i ≤ length s
-  pub so_far : every q s ≡ (ok && every q (drop i s))
+-- one more byte
+pub every_push : (q : ℕ → Bool) (l : List ℕ) (x : ℕ) → every q (l ++ (x ∷ [])) ≡ (every q l && q x)
+every_push q [] x = and-true (q x)
+every_push q (y ∷ ys) x = rw (every_push q ys x) (sym (and_assoc (q y) (every q ys) (q x)))
 
-and_assoc : (a b c : Bool) → (a && (b && c)) ≡ ((a && b) && c)
-and_assoc true b c = refl
-and_assoc false b c = refl
+eqb_sym : (x y : ℕ) → eqb x y ≡ eqb y x
+eqb_sym x y = grind (arith, nat_tests)
 
-and_true : (a : Bool) → (a && true) ≡ a
-and_true true = refl
-and_true false = refl
+pointwise_same : (p s : List ℕ) → pointwise eqb p s ≡ same s p
+unfolding same
+pointwise_same [] [] = refl
+pointwise_same [] (y ∷ s) = refl
+pointwise_same (x ∷ p) [] = refl
+pointwise_same (x ∷ p) (y ∷ s) = rw (pointwise_same p s, eqb_sym x y)
 
-module _ (q : ℕ → Bool) (s : List ℕ) where
-  pub passing_none : Passing q s true 0
-  passing_none = record { within = omega arith; so_far = refl }
-
-  pub passing_more : (ok b : Bool) (i : ℕ) → Passing q s ok i → i < length s → b ≡ q (get_or s i 0) → Passing q s (ok && b) (i + 1)
-  passing_more ok b i p h e =
-      record {
-        within = omega arith;
-        so_far = p.so_far ∙ rw (add-one, drop-cons s i 0 h, e) (and_assoc ok (q (get_or s i 0)) _);
-      }
-
-  pub passing_all : (ok : Bool) (i : ℕ) → Passing q s ok i → length s ≤ i → ok ≡ every q s
-  passing_all ok i p h = sym (p.so_far ∙ rw (every_end q s i h) (and_true ok))
+pub starts_so : (s : List ℕ) → pointwise eqb (0x68 ∷ 0x74 ∷ 0x74 ∷ 0x70 ∷ 0x73 ∷ 0x3A ∷ 0x2F ∷ 0x2F ∷ []) (take 8 s) ≡ begins redirect_prefix s
+unfolding redirect_prefix
+starts_so s = pointwise_same redirect_prefix (take (length redirect_prefix) s)

@@ -1,68 +1,33 @@
-// Classes of bytes. No test and no loop here leaves early: what is checked is short and nearly always well formed, so a branch would only cost.
-ghost use Rattle.std.specs.Prelude.{◌≡◌};
-ghost use Rattle.octets.specs.Lists.{every};
-ghost use Rattle.forms.specs.Forms.{between, visible, url_safe, unreserved};
+// Classes of bytes. No test and no fold here leaves early: what is checked is short and nearly always well formed, so a branch would only cost.
+ghost use Rattle.std.specs.Prelude.{◌≡◌, ℕ, Bool};
+ghost use Rattle.octets.specs.Lists.{every, Computes};
+ghost use Rattle.forms.specs.Forms.{visible, url_safe, unreserved};
 
-fn between(a: u8, b: u8, x: u8) -> bool
-    ensures { result ≡ between a b x }
-{
-    (a <= x) & (x <= b)
-}
-
-fn visible(x: u8) -> bool
+#[tactic(auto, unfolding(crate::specs::Forms::visible))]
+pub fn visible(x: u8) -> bool
     ensures { result ≡ visible x }
 {
-    between(0x21, 0x7E, x)
+    x.is_ascii_graphic()
 }
 
-fn url_safe(x: u8) -> bool
+#[tactic(auto, unfolding(crate::specs::Forms::url_safe))]
+pub fn url_safe(x: u8) -> bool
     ensures { result ≡ url_safe x }
 {
-    between(b'A', b'Z', x)
-        | between(b'a', b'z', x)
-        | between(b'0', b'9', x)
-        | (x == b'-')
-        | (x == b'_')
+    x.is_ascii_alphabetic() | x.is_ascii_digit() | (x == b'-') | (x == b'_')
 }
 
-fn unreserved(x: u8) -> bool
+#[tactic(auto, unfolding(crate::specs::Forms::unreserved))]
+pub fn unreserved(x: u8) -> bool
     ensures { result ≡ unreserved x }
 {
     url_safe(x) | (x == b'.') | (x == b'~')
 }
 
-pub fn all_visible(s: &[u8]) -> bool
-    ensures { result ≡ every visible s.now }
+// Whether every byte is of the class.
+pub fn all<F: Fn(u8) -> bool>(s: &[u8], class: F) -> bool
+    requires { F.IsAlwaysCallable class }
+    ensures { (q : ℕ → Bool) → Computes (F.post class) q → result ≡ every q s.now }
 {
-    let mut ok = true;
-    let mut i = 0;
-    while i < s.len() {
-        ok = ok & visible(s[i]);
-        i += 1;
-    }
-    ok
-}
-
-pub fn all_url_safe(s: &[u8]) -> bool
-    ensures { result ≡ every url_safe s.now }
-{
-    let mut ok = true;
-    let mut i = 0;
-    while i < s.len() {
-        ok = ok & url_safe(s[i]);
-        i += 1;
-    }
-    ok
-}
-
-pub fn all_unreserved(s: &[u8]) -> bool
-    ensures { result ≡ every unreserved s.now }
-{
-    let mut ok = true;
-    let mut i = 0;
-    while i < s.len() {
-        ok = ok & unreserved(s[i]);
-        i += 1;
-    }
-    ok
+    s.iter().fold(true, |ok, &x| ok & class(x))
 }

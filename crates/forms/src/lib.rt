@@ -4,7 +4,7 @@
 
 ghost use Rattle.std.specs.Prelude.{◌≡◌};
 ghost use Rattle.forms.specs.Limits.{redirect_least, redirect_most, challenge_length, verifier_least, verifier_most};
-ghost use Rattle.forms.specs.Forms.{redirect_form, challenge_form, verifier_form};
+ghost use Rattle.forms.specs.Forms.{form_if, redirect_form, challenge_form, verifier_form};
 
 mod class;
 
@@ -12,6 +12,14 @@ mod class;
 pub enum Form {
     Well,
     Ill,
+}
+
+impl Form {
+    fn of(well: bool) -> Form
+        ensures { result ≡ form_if well }
+    {
+        if well { Form::Well } else { Form::Ill }
+    }
 }
 
 #[derive(Clone, Copy)]
@@ -35,23 +43,12 @@ impl Redirect {
         Redirect::MOST
     }
 
+    #[tactic(auto, using(octets::proofs::Ranges::contains_is, crate::proofs::Passing::starts_so), unfolding(crate::specs::Forms::redirect_form, crate::specs::Forms::redirect_formed))]
     pub fn check(s: &[u8]) -> Form
         ensures { result ≡ redirect_form s.now }
     {
-        if s.len() < Redirect::LEAST {
-            return Form::Ill;
-        }
-        if s.len() > Redirect::MOST {
-            return Form::Ill;
-        }
-        let prefix = b"https://";
-        if !octets::part::same(&s[0..prefix.len()], prefix) {
-            return Form::Ill;
-        }
-        if !class::all_visible(s) {
-            return Form::Ill;
-        }
-        Form::Well
+        let sized = (Redirect::LEAST..=Redirect::MOST).contains(&s.len());
+        Form::of(sized && s.starts_with(b"https://") && class::all(s, class::visible))
     }
 }
 
@@ -67,16 +64,11 @@ impl Challenge {
         Challenge::LENGTH
     }
 
+    #[tactic(auto, unfolding(crate::specs::Forms::challenge_form, crate::specs::Forms::challenge_formed))]
     pub fn check(s: &[u8]) -> Form
         ensures { result ≡ challenge_form s.now }
     {
-        if s.len() != Challenge::LENGTH {
-            return Form::Ill;
-        }
-        if !class::all_url_safe(s) {
-            return Form::Ill;
-        }
-        Form::Well
+        Form::of(s.len() == Challenge::LENGTH && class::all(s, class::url_safe))
     }
 }
 
@@ -100,18 +92,11 @@ impl Verifier {
         Verifier::MOST
     }
 
+    #[tactic(auto, using(octets::proofs::Ranges::contains_is), unfolding(crate::specs::Forms::verifier_form, crate::specs::Forms::verifier_formed))]
     pub fn check(s: &[u8]) -> Form
         ensures { result ≡ verifier_form s.now }
     {
-        if s.len() < Verifier::LEAST {
-            return Form::Ill;
-        }
-        if s.len() > Verifier::MOST {
-            return Form::Ill;
-        }
-        if !class::all_unreserved(s) {
-            return Form::Ill;
-        }
-        Form::Well
+        let sized = (Verifier::LEAST..=Verifier::MOST).contains(&s.len());
+        Form::of(sized && class::all(s, class::unreserved))
     }
 }

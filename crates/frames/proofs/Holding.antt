@@ -1,7 +1,7 @@
 -- Laws of a buffer whose front is in use: what a frame writes there, and what stays.
 use Prim.Native.Nat.{ℕ, ◌+◌, ◌*◌, ◌-◌, ◌%◌, ◌≤◌, ◌<◌}
 use native.Mathlib.Omega.{arith}
-use mathlib.Core.Path.{◌≡◌, sym, ap, ◌∙◌}
+use mathlib.Core.Path.{◌≡◌, refl, sym, ap, ◌∙◌}
 use mathlib.Core.Bool.{true, false}
 use mathlib.Core.List.{List, ◌++◌, append_assoc}
 use lib.ListN.{length, take, drop, length-append, length-drop, take-append-drop}
@@ -14,9 +14,11 @@ use Rattle.desk.specs.Answers.{done, number_of}
 use Rattle.desk.specs.declared.answer.Refusal.TheVariants.{LedgerUnsound, TableUnsound}
 use Rattle.desk.specs.Outcome.{Outcome, left}
 use Rattle.desk.specs.Start.{start, empty_ledger}
+use Rattle.std.proofs.Common.{Option, Some}
 use Rattle.wire.specs.declared.kind.Kind.{Kind}
+use Rattle.wire.specs.declared.kind.Kind.TheVariants.{Start, Push, Decide, Token, Resource, Sweep, Client}
 use Rattle.texts.specs.Hex.{between}
-use Rattle.wire.specs.Kinds.{kind_of, least}
+use Rattle.wire.specs.Kinds.{kind_of}
 use Rattle.wire.specs.Calls.{slot_count}
 use Rattle.wire.specs.Answers.{number_bytes, no_frame}
 use Rattle.frames.specs.Serve.{Desk, Written, written, Served, served, started, appended, on_ledger, on_table, called, serve}
@@ -113,46 +115,51 @@ module _ (f t : List ℕ) (n : ℕ) (within : n ≤ length t) where
 
 -- ---- by the kind of frame
 
-pub least_of : {k j : Kind} {n : ℕ} → k ≡ j → least k ≤ n → least j ≤ n
-least_of {k} {j} {n} e h = rw e at h
-
 pub by_call : (k : Kind) (f l t : List ℕ) {j : Kind} {w : Written} → j ≡ k → w ≡ called k f l t → w ≡ called j f l t
 by_call k f l t {j} {w} e h = h ∙ ap (λ (i : Kind). called i f l t) (sym e)
 
+-- a kind that names a call
+pub serve_call : (k : Kind) (f : List ℕ) (d : Desk) → (k ≡ Start → ⊥) → (k ≡ Client → ⊥) → serve (Some k) f d ≡ on_ledger (called k f d.ledger d.table) d
+serve_call Start f d h g = absurd (h refl)
+serve_call Push f d h g = refl
+serve_call Decide f d h g = refl
+serve_call Token f d h g = refl
+serve_call Resource f d h g = refl
+serve_call Sweep f d h g = refl
+serve_call Client f d h g = absurd (g refl)
+
 module _ (l t : List ℕ) (n m : ℕ) (used : n ≤ length l) (listed : m ≤ length t) where
   -- a frame that writes to the ledger, and one that writes to the table
-  pub on_ledger_lem : (w : Written) {u i j : ℕ} {x a b : List ℕ} → i ≡ u → j ≡ m → a ≡ b → filled u x b ≡ fill w l → placed i j x t a ≡ place (on_ledger w (desk_in n m l t)) l t
+  pub on_ledger_lem : (w : Written) {u j : ℕ} {x a : List ℕ} → j ≡ m → filled u x a ≡ fill w l → placed u j x t a ≡ place (on_ledger w (desk_in n m l t)) l t
   unfolding fill place
-  on_ledger_lem w {u} {i} {j} {x} {a} {b} hi hj ha h =
-      let o : filled u x b ≡ filled (length w.bytes) (laid w.bytes l) w.answer = h in
+  on_ledger_lem w {u} {j} {x} {a} hj h =
+      let o : filled u x a ≡ filled (length w.bytes) (laid w.bytes l) w.answer = h in
       let o1 : u ≡ length w.bytes = ap (λ (v : Filled). v.used) o in
       let o2 : x ≡ laid w.bytes l = ap (λ (v : Filled). v.buffer) o in
-      let o3 : b ≡ w.answer = ap (λ (v : Filled). v.answer) o in
-      rw (hi, hj, ha, o1, o2, o3, length-take-le m t listed, laid_front m t listed)
+      let o3 : a ≡ w.answer = ap (λ (v : Filled). v.answer) o in
+      rw (hj, o1, o2, o3, length-take-le m t listed, laid_front m t listed)
 
-  -- a call that was lent the front of the ledger's buffer
-  pub on_front : (w : Written) {i j : ℕ} {x a b : List ℕ} → i ≡ n → j ≡ m → a ≡ b → written x b ≡ w → length (x ++ drop n l) ≡ length l
-      → placed i j (x ++ drop n l) t a ≡ place (on_ledger w (desk_in n m l t)) l t
-  on_front w {i} {j} {x} {a} {b} hi hj ha e h =
-      let k : length x ≡ length (take n l) = omega (arith, length-append x (drop n l), length-drop n l, length-take-le n l used) in
-      on_ledger_lem w hi hj ha (fill_part l n used w e k)
-
-  pub on_table_lem : (w : Written) {u i j : ℕ} {x a b : List ℕ} → i ≡ n → j ≡ u → a ≡ b → filled u x b ≡ fill w t → placed i j l x a ≡ place (on_table w (desk_in n m l t)) l t
+  pub on_table_lem : (w : Written) {u i : ℕ} {x a : List ℕ} → i ≡ n → filled u x a ≡ fill w t → placed i u l x a ≡ place (on_table w (desk_in n m l t)) l t
   unfolding fill place
-  on_table_lem w {u} {i} {j} {x} {a} {b} hi hj ha h =
-      let o : filled u x b ≡ filled (length w.bytes) (laid w.bytes t) w.answer = h in
+  on_table_lem w {u} {i} {x} {a} hi h =
+      let o : filled u x a ≡ filled (length w.bytes) (laid w.bytes t) w.answer = h in
       let o1 : u ≡ length w.bytes = ap (λ (v : Filled). v.used) o in
       let o2 : x ≡ laid w.bytes t = ap (λ (v : Filled). v.buffer) o in
-      let o3 : b ≡ w.answer = ap (λ (v : Filled). v.answer) o in
-      rw (hi, hj, ha, o1, o2, o3, length-take-le n l used, laid_front n l used)
+      let o3 : a ≡ w.answer = ap (λ (v : Filled). v.answer) o in
+      rw (hi, o1, o2, o3, length-take-le n l used, laid_front n l used)
+
+  -- a call that was lent the front of the ledger's buffer
+  pub on_front : (w : Written) {x a : List ℕ} → written x a ≡ w → length (x ++ drop n l) ≡ length l
+      → placed n m (x ++ drop n l) t a ≡ place (on_ledger w (desk_in n m l t)) l t
+  on_front w {x} {a} e h =
+      let k : length x ≡ length (take n l) = omega (arith, length-append x (drop n l), length-drop n l, length-take-le n l used) in
+      on_ledger_lem w refl (fill_part l n used w e k)
+
+  -- what is no frame changes nothing
+  pub at_none : (s : Served) → s ≡ served (take n l) (take m t) no_frame → {a : List ℕ} → a ≡ no_frame → placed n m l t a ≡ place s l t
+  unfolding place
+  at_none s e h = rw (e, h, length-take-le n l used, length-take-le m t listed, laid_front n l used, laid_front m t listed)
 
 -- the kind that was found
-pub by_kind : (k : Kind) (f l t : List ℕ) (d : Desk) → kind_of f ≡ k → {p : Placed} → p ≡ place (serve k f d) l t → p ≡ place (serve (kind_of f) f d) l t
-by_kind k f l t d e h = h ∙ ap (λ (j : Kind). place (serve j f d) l t) (sym e)
-
--- what is no frame changes nothing
-pub at_none : (s : Served) (l t : List ℕ) (n m : ℕ) → n ≤ length l → m ≤ length t → s ≡ served (take n l) (take m t) no_frame
-    → {i j : ℕ} {a b : List ℕ} → i ≡ n → j ≡ m → a ≡ b → b ≡ no_frame → placed i j l t a ≡ place s l t
-unfolding place
-at_none s l t n m h k e hi hj ha hb =
-    rw (e, hi, hj, ha, hb, length-take-le n l h, length-take-le m t k, laid_front n l h, laid_front m t k)
+pub by_kind : (k : Option Kind) (f l t : List ℕ) (d : Desk) → kind_of f ≡ k → {p : Placed} → p ≡ place (serve k f d) l t → p ≡ place (serve (kind_of f) f d) l t
+by_kind k f l t d e h = h ∙ ap (λ (j : Option Kind). place (serve j f d) l t) (sym e)

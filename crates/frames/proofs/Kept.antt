@@ -1,4 +1,5 @@
 -- A call keeps the length of the ledger, and a frame keeps ledger and table within the largest size.
+use Rattle.std.specs.Prelude.{Result, Ok, Err}
 use Prim.Native.Nat.{ℕ, zero, suc, ◌+◌, ◌*◌, ◌≤◌, ◌<◌}
 use native.Mathlib.Omega.{arith}
 use mathlib.Core.Path.{◌≡◌, refl, sym, ap, ◌∙◌}
@@ -6,6 +7,7 @@ use mathlib.Core.Bool.{Bool, true, false, not, cond, false≢true}
 use mathlib.Core.List.{List, [], ◌∷◌, ◌++◌}
 use lib.Dec.{eqb, leb}
 use lib.ListN.{length, get_or, take, length-append, length-take, length-drop}
+use Rattle.std.proofs.Common.{Option, None, Some}
 use borrow.Author.Tests.{not-false, leb-true, eqb-true, eq-eqb}
 use Rattle.octets.specs.Lists.{some, every, place}
 use Rattle.octets.specs.Parts.{part}
@@ -18,10 +20,9 @@ use Rattle.ledger.specs.Write.{pushed, consented, redeemed, free}
 use Rattle.ledger.specs.Sweep.{swept}
 use Rattle.ledger.proofs.Records.{length_records, rec_length, length_with}
 use Rattle.ledger.proofs.Swept.{length_free, length_to}
+use Rattle.desk.specs.declared.answer.Answer.{Answer}
 use Rattle.desk.specs.declared.answer.Refusal.{Refusal}
 use Rattle.desk.specs.declared.answer.Refusal.TheVariants.{LedgerUnsound, CodeRedeemed}
-use Rattle.desk.specs.declared.answer.Reading.{Reading}
-use Rattle.desk.specs.declared.answer.Reading.TheVariants.{Granted, Refused}
 use Rattle.desk.specs.Answers.{number_of}
 use Rattle.desk.specs.Checks.{Check, ◌when◌, Verdict, accepted, stopped, first}
 use Rattle.desk.specs.Requests.{PushRequest, DecideRequest, TokenRequest, ResourceRequest}
@@ -32,7 +33,7 @@ use Rattle.desk.specs.Token.{token, token_checks, token_at, ended, token_leaves,
 use Rattle.desk.specs.Resource.{resource, resource_by, look}
 use Rattle.desk.specs.Sweep.{sweep, sweep_checks, sweep_leaves}
 use Rattle.wire.specs.declared.kind.Kind.{Kind}
-use Rattle.wire.specs.declared.kind.Kind.TheVariants.{Start, Push, Decide, Token, Resource, Sweep, Client, NoFrame}
+use Rattle.wire.specs.declared.kind.Kind.TheVariants.{Start, Push, Decide, Token, Resource, Sweep, Client}
 use Rattle.frames.specs.Limits.{ledger_most, table_most}
 use Rattle.texts.specs.Hex.{between}
 use Rattle.wire.specs.Calls.{slot_count}
@@ -177,9 +178,9 @@ module _ (l : List ℕ) (t : ℕ) (table : List ℕ) (q : TokenRequest) where
   token_length =
       concluded (first (token_checks l t table q (code_place l q))) l (token_leaves l t (code_place l q)) (token_at l t q (code_place l q)) token_refused (λ e. token_at_lem (code_place l q) (token_inside e))
 
-by_reading : (r : Reading) (l : List ℕ) (t : ℕ) → length (resource_by r l t).ledger ≡ length l
-by_reading (Granted a) l t = simp length_put
-by_reading (Refused why) l t = refl
+by_reading : (r : Result Answer Refusal) (l : List ℕ) (t : ℕ) → length (resource_by r l t).ledger ≡ length l
+by_reading (Ok a) l t = simp length_put
+by_reading (Err why) l t = refl
 
 pub resource_length : (l : List ℕ) (t : ℕ) (q : ResourceRequest) → length (resource l t q).ledger ≡ length l
 unfolding resource
@@ -215,13 +216,13 @@ pub record Sized (s : Served) : Type 0 where
   pub ledger : length s.ledger ≤ ledger_most
   pub table : length s.table ≤ table_most
 
-pub serve_fits : (k : Kind) (f : List ℕ) (d : Desk) → length d.ledger ≤ ledger_most → length d.table ≤ table_most → Sized (serve k f d)
+pub serve_fits : (k : Option Kind) (f : List ℕ) (d : Desk) → length d.ledger ≤ ledger_most → length d.table ≤ table_most → Sized (serve k f d)
 unfolding serving.pushed serving.decided serving.redeemed serving.read serving.swept
-serve_fits Start f d h k = record { ledger = started_fits f d.ledger h; table = k }
-serve_fits Push f d h k = record { ledger = rw (push_length d.ledger _ d.table _) h; table = k }
-serve_fits Decide f d h k = record { ledger = rw (decide_length d.ledger _ _ _) h; table = k }
-serve_fits Token f d h k = record { ledger = rw (token_length d.ledger _ d.table _) h; table = k }
-serve_fits Resource f d h k = record { ledger = rw (resource_length d.ledger _ _) h; table = k }
-serve_fits Sweep f d h k = record { ledger = rw (sweep_length d.ledger _) h; table = k }
-serve_fits Client f d h k = record { ledger = h; table = appended_fits f d.table k }
-serve_fits NoFrame f d h k = record { ledger = h; table = k }
+serve_fits (Some Start) f d h k = record { ledger = started_fits f d.ledger h; table = k }
+serve_fits (Some Push) f d h k = record { ledger = rw (push_length d.ledger _ d.table _) h; table = k }
+serve_fits (Some Decide) f d h k = record { ledger = rw (decide_length d.ledger _ _ _) h; table = k }
+serve_fits (Some Token) f d h k = record { ledger = rw (token_length d.ledger _ d.table _) h; table = k }
+serve_fits (Some Resource) f d h k = record { ledger = rw (resource_length d.ledger _ _) h; table = k }
+serve_fits (Some Sweep) f d h k = record { ledger = rw (sweep_length d.ledger _) h; table = k }
+serve_fits (Some Client) f d h k = record { ledger = h; table = appended_fits f d.table k }
+serve_fits None f d h k = record { ledger = h; table = k }

@@ -2,7 +2,6 @@
 pub mod Lines
 pub mod Fits
 pub mod Answers
-pub mod Asked
 pub mod Holding
 pub mod Kept
 pub mod Fitting

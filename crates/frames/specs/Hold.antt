@@ -1,16 +1,9 @@
 -- How ledger and table lie in their buffers: at the front, with the length in use beside them. What lies behind it is not looked at, and stays.
-use Rattle.std.specs.Prelude.{ℕ, ◌≤◌, ◌≡◌, Bool, ◌&&◌, cond, List, eqb, leb, length, take}
+use Rattle.std.specs.Prelude.{ℕ, Bool, ◌&&◌, cond, List, eqb, leb, length, take}
 use Rattle.octets.specs.Parts.{laid}
 use Rattle.frames.specs.Limits.{ledger_most, table_most, answer_line}
 use Rattle.frames.specs.Line.{line_of}
 use Rattle.frames.specs.Serve.{Desk, Written, Served, serve_line}
-
--- buffers of the largest size, and lengths within them
-pub record Fitting (n m : ℕ) (ledger table : List ℕ) : Type 0 where
-  pub used : n ≤ ledger_most
-  pub listed : m ≤ table_most
-  pub ledger_sized : length ledger ≡ ledger_most
-  pub table_sized : length table ≡ table_most
 
 -- the desk that lies in the buffers, n bytes of the ledger's and m of the table's
 abbrev pub desk_in : ℕ → ℕ → List ℕ → List ℕ → Desk

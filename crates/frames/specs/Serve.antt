@@ -1,5 +1,5 @@
 -- What a frame does to ledger and table, and the bytes of its answer.
-use Rattle.std.specs.Prelude.{ℕ, ◌+◌, ◌*◌, cond, List, [], ◌++◌, leb, length}
+use Rattle.std.specs.Prelude.{ℕ, ◌+◌, ◌*◌, cond, Option, None, Some, List, [], ◌++◌, leb, length}
 use Rattle.octets.specs.Parts.{blank}
 use Rattle.ledger.specs.Limits.{head_size, record_size, records_least, records_most}
 use Rattle.clients.specs.Limits.{client_size}
@@ -17,7 +17,7 @@ use Rattle.desk.specs.Token.{token}
 use Rattle.desk.specs.Resource.{resource}
 use Rattle.desk.specs.Sweep.{sweep}
 use Rattle.wire.specs.declared.kind.Kind.{Kind}
-use Rattle.wire.specs.declared.kind.Kind.TheVariants.{Start, Push, Decide, Token, Resource, Sweep, Client, NoFrame}
+use Rattle.wire.specs.declared.kind.Kind.TheVariants.{Start, Push, Decide, Token, Resource, Sweep, Client}
 use Rattle.texts.specs.Hex.{between, decoded}
 use Rattle.frames.specs.Limits.{table_most}
 use Rattle.frames.specs.Line.{frame_kind}
@@ -84,7 +84,6 @@ called Resource f l t = read f l
 called Sweep f l t = swept f l
 called Start f l t = written l []
 called Client f l t = written l []
-called NoFrame f l t = written l []
 
 -- "A slot count of 0 or above 200 prints 01 and keeps the old ledger."
 abbrev pub ledger_size : ℕ → ℕ
@@ -108,15 +107,15 @@ abbrev pub on_table : Written → Desk → Served
 on_table w d = served d.ledger w.bytes w.answer
 
 -- by the kind of frame; what is no frame "changes nothing"
-abbrev pub serve : Kind → List ℕ → Desk → Served
-serve Start f d = on_ledger (started f d.ledger) d
-serve Push f d = on_ledger (called Push f d.ledger d.table) d
-serve Decide f d = on_ledger (called Decide f d.ledger d.table) d
-serve Token f d = on_ledger (called Token f d.ledger d.table) d
-serve Resource f d = on_ledger (called Resource f d.ledger d.table) d
-serve Sweep f d = on_ledger (called Sweep f d.ledger d.table) d
-serve Client f d = on_table (appended f d.table) d
-serve NoFrame f d = served d.ledger d.table no_frame
+abbrev pub serve : Option Kind → List ℕ → Desk → Served
+serve (Some Start) f d = on_ledger (started f d.ledger) d
+serve (Some Push) f d = on_ledger (called Push f d.ledger d.table) d
+serve (Some Decide) f d = on_ledger (called Decide f d.ledger d.table) d
+serve (Some Token) f d = on_ledger (called Token f d.ledger d.table) d
+serve (Some Resource) f d = on_ledger (called Resource f d.ledger d.table) d
+serve (Some Sweep) f d = on_ledger (called Sweep f d.ledger d.table) d
+serve (Some Client) f d = on_table (appended f d.table) d
+serve None f d = served d.ledger d.table no_frame
 
 -- a line of the input
 unfoldable pub serve_line : List ℕ → Desk → Served

@@ -1,68 +1,96 @@
-// The bytes of an answer, written to the front of a buffer; the number of bytes is answered.
-ghost use Rattle.std.specs.Prelude.{◌≡◌, ◌+◌, ◌≤◌, ◌++◌, length, take};
+// What an answer is in bytes.
+ghost use Rattle.std.specs.Prelude.{◌≡◌, ◌+◌, ◌≤◌, ◌++◌, [], List, ℕ, length, take};
 ghost use Rattle.octets.specs.Numbers.{digits};
-ghost use Rattle.desk.specs.Limits.{output_least};
-ghost use Rattle.wire.specs.Answers.{answer_size, answer_most, number_bytes, swept_bytes, answer_bytes, decided_bytes};
+ghost use Rattle.wire.specs.Answers.{answer_most, number_bytes, swept_bytes, answer_bytes, decided_bytes};
 
 use desk::answer::{Answer, Decided, Swept};
-use octets::number::bytes16;
+use forms::Redirect;
+use octets::number::Number;
 use octets::part::{cut, put};
-use wire::answer::bytes;
+use wire::answer::{Said, bytes};
 
-// Puts xs behind the first `at` bytes, and answers where it ends.
-fn append(out: &mut [u8], at: usize, xs: &[u8]) -> usize
-    requires { at + length xs.now ≤ length out.old }
-    ensures { (result ≡ at + length xs.now) × (take result out.new ≡ take at out.old ++ xs.now) }
-{
-    put(out, at, xs);
-    at + xs.len()
+// An answer's bytes, at the front of a buffer that has room for the longest. A clause sees the bytes alone.
+#[derive(Drop)]
+pub struct Bytes {
+    buffer: [u8; Said::MOST],
+    count: usize,
 }
 
-pub fn write_number(out: &mut [u8], n: u8) -> usize
-    requires { length out.old ≡ answer_most }
-    ensures { (result ≡ 1) × (take result out.new ≡ number_bytes n) }
-{
-    append(out, 0, &[n])
+impl std::marker::Model for Bytes {
+    ghost Value = { List ℕ };
+
+    ghost view = { λ b. take b.count b.buffer };
+
+    ghost invariant = { λ b. b.count ≤ answer_most };
 }
 
-pub fn write_answer(out: &mut [u8], a: Answer) -> usize
-    requires { length out.old ≡ answer_most }
-    ensures { (result ≡ answer_size) × (take result out.new ≡ answer_bytes a) }
-{
-    append(out, 0, &bytes(a))
-}
+impl Bytes {
+    pub fn new() -> Bytes
+        ensures { result ≡ [] }
+    {
+        Bytes {
+            buffer: [0u8; Said::MOST],
+            count: 0,
+        }
+    }
 
-pub fn long(n: u8) -> usize
-    ensures { result ≡ n }
-{
-    n as usize
-}
+    fn append(&mut self, xs: &[u8])
+        requires { length self.old + length xs.now ≤ answer_most }
+        ensures { self.new ≡ self.old ++ xs.now }
+    {
+        put(&mut self.buffer, self.count, xs);
+        self.count += xs.len();
+    }
 
-// The answer, the redirect's length and as many of its bytes, which lie at the front of the redirect's buffer.
-pub fn write_decided(out: &mut [u8], d: Decided, redirect: &[u8]) -> usize
-    requires { (length out.old ≡ answer_most) × (length redirect.now ≤ output_least) }
-    ensures { (result ≤ answer_most) × (take result out.new ≡ decided_bytes d redirect.now) }
-{
-    let a = d.answer;
-    let n = d.length;
-    let answer = write_answer(out, a);
-    let length = append(out, answer, &[n]);
-    append(out, length, cut(redirect, 0, long(n)))
+    pub fn as_slice(&self) -> &[u8]
+        ensures value { result.now ≡ self.now }
+        ensures length_in_bounds { length result.now ≤ answer_most }
+    {
+        &self.buffer[..self.count]
+    }
+
+    pub fn number(n: u8) -> Bytes
+        ensures { result ≡ number_bytes n }
+    {
+        let mut out = Bytes::new();
+        out.append(&[n]);
+        out
+    }
+
+    pub fn answer(a: Answer) -> Bytes
+        ensures { result ≡ answer_bytes a }
+    {
+        let mut out = Bytes::new();
+        out.append(&bytes(a));
+        out
+    }
+
+    // The answer, the redirect's length and as many of its bytes, which lie at the front of the redirect's buffer.
+    pub fn decided(d: Decided, redirect: &[u8; Redirect::MOST]) -> Bytes
+        ensures { result ≡ decided_bytes d redirect.now }
+    {
+        let mut out = Bytes::answer(d.answer);
+        out.append(&[d.length]);
+        out.append(cut(redirect, 0, usize::from(d.length)));
+        out
+    }
+
+    #[tactic(auto, using(crate::proofs::Answers::counted))]
+    pub fn swept(s: Swept) -> Bytes
+        ensures { result ≡ swept_bytes s }
+    {
+        let mut out = Bytes::number(s.number);
+        out.append(&short(s.pushed));
+        out.append(&short(s.consented));
+        out.append(&short(s.redeemed));
+        out
+    }
 }
 
 // A count in two bytes.
+#[tactic(auto, using(crate::proofs::Answers::short_digits))]
 fn short(n: usize) -> [u8; 2]
     ensures { result ≡ digits 2 n }
 {
-    bytes16((n % 65536) as u16)
-}
-
-pub fn write_swept(out: &mut [u8], s: Swept) -> usize
-    requires { length out.old ≡ answer_most }
-    ensures { (result ≡ 7) × (take result out.new ≡ swept_bytes s) }
-{
-    let number = append(out, 0, &[s.number]);
-    let pushed = append(out, number, &short(s.pushed));
-    let consented = append(out, pushed, &short(s.consented));
-    append(out, consented, &short(s.redeemed))
+    ((n % 65536) as u16).bytes()
 }

@@ -1,18 +1,14 @@
-// What each kind of frame does to ledger and table, which lie at the front of their buffers: n and m bytes of them are in use.
-ghost use Rattle.std.specs.Prelude.{◌≡◌, ◌≤◌, ◌<◌, length, take};
-ghost use Rattle.desk.specs.Answers.{number_of};
-ghost use Rattle.desk.specs.declared.answer.Refusal.TheVariants.{LedgerUnsound};
-ghost use Rattle.wire.specs.Answers.{answer_most, number_bytes};
-ghost use Rattle.wire.specs.Kinds.{kind_of, least, width};
+// What each kind of frame does to ledger and table, which lie at the front of their buffers, and the bytes of its answer.
+ghost use Rattle.std.specs.Prelude.{◌≡◌, ◌≤◌, length, take};
+ghost use Rattle.wire.specs.Kinds.{kind_of, width};
 ghost use Rattle.wire.specs.Kinds.{start as startRow, client as clientRow};
-ghost use Rattle.frames.specs.Limits.{ledger_most, table_most};
-ghost use Rattle.frames.specs.Serve.{called, serve, started, appended, on_ledger};
-ghost use Rattle.frames.specs.Hold.{Fitting, desk_in, filled, fill, placed, place};
+ghost use Rattle.frames.specs.Serve.{serve, started, appended};
+ghost use Rattle.frames.specs.Hold.{desk_in, filled, fill, placed, place};
 
-use super::answer::{long, write_number};
+use super::answer::Bytes;
 use super::call::call;
 use super::limit::Buffer;
-use super::served::Served;
+use super::used::Used;
 use clients::record::Client as Record;
 use desk::answer::{Answer, Refusal};
 use ledger::limit::Ledger;
@@ -20,111 +16,53 @@ use octets::part::{cut, put};
 use wire::answer::Said;
 use wire::kind::{Client, Kind, Start, kind_of};
 
-// A buffer afterwards: how much of it is in use, and the number of the answer's bytes.
-#[derive(Clone, Copy)]
-struct Used {
-    used: usize,
-    count: usize,
-}
-
-fn refuse_start(kept: usize, out: &mut [u8]) -> Used
-    requires { length out.old ≡ answer_most }
-    ensures { (result.used ≡ kept) × ((result.count ≤ answer_most) × (take result.count out.new ≡ number_bytes (number_of LedgerUnsound))) }
-{
-    let count = write_number(out, Refusal::LedgerUnsound.number());
-    Used {
-        used: kept,
-        count: count,
-    }
-}
-
 // Start, in the front of the ledger's buffer.
-fn start(f: &[u8], used: usize, ledger: &mut [u8], out: &mut [u8]) -> Used
-    requires { (width startRow ≤ length f.now) × ((used ≤ ledger_most) × ((length ledger.old ≡ ledger_most) × (length out.old ≡ answer_most))) }
-    ensures { (result.count ≤ answer_most) × (filled result.used ledger.new (take result.count out.new) ≡ fill (started f.now (take used ledger.old)) ledger.old) }
+fn start(f: &[u8], used: &mut Used, ledger: &mut [u8; Buffer::LEDGER]) -> Bytes
+    requires { width startRow ≤ length f.now }
+    ensures ledger_after { filled used.new.ledger ledger.new result ≡ fill (started f.now (take used.old.ledger ledger.old)) ledger.old }
+    ensures table_stays { used.new.table ≡ used.old.table }
 {
-    let slots = long(f[Start::SLOTS]);
-    if slots < Ledger::LEAST {
-        return refuse_start(used, out);
-    }
-    if Ledger::MOST < slots {
-        return refuse_start(used, out);
+    let slots = usize::from(f[Start::SLOTS]);
+    if slots < Ledger::LEAST || Ledger::MOST < slots {
+        return Bytes::number(Refusal::LedgerUnsound.into());
     }
     let n = Ledger::HEAD + slots * Ledger::RECORD;
     let number = start::start(&mut ledger[..n]);
-    let count = write_number(out, number);
-    Used {
-        used: n,
-        count: count,
-    }
+    used.ledger = n;
+    Bytes::number(number)
 }
 
 // A client's record, behind those in the front of the table's buffer.
-fn append(f: &[u8], used: usize, table: &mut [u8], out: &mut [u8]) -> Used
-    requires { (width clientRow ≤ length f.now) × ((used ≤ table_most) × ((length table.old ≡ table_most) × (length out.old ≡ answer_most))) }
-    ensures { (result.count ≤ answer_most) × (filled result.used table.new (take result.count out.new) ≡ fill (appended f.now (take used table.old)) table.old) }
+#[tactic(auto, using(crate::proofs::Holding::append_full, crate::proofs::Holding::append_done))]
+fn append(f: &[u8], used: &mut Used, table: &mut [u8; Buffer::TABLE]) -> Bytes
+    requires { width clientRow ≤ length f.now }
+    ensures table_after { filled used.new.table table.new result ≡ fill (appended f.now (take used.old.table table.old)) table.old }
+    ensures ledger_stays { used.new.ledger ≡ used.old.ledger }
 {
-    if Buffer::TABLE < used + Record::SIZE {
-        let count = write_number(out, Refusal::TableUnsound.number());
-        return Used {
-            used: used,
-            count: count,
-        };
+    let n = used.table;
+    if Buffer::TABLE < n + Record::SIZE {
+        return Bytes::number(Refusal::TableUnsound.into());
     }
-    put(table, used, cut(f, Client::RECORD, Record::SIZE));
-    let count = write_number(out, Answer::DONE);
-    Used {
-        used: used + Record::SIZE,
-        count: count,
-    }
+    put(table, n, cut(f, Client::RECORD, Record::SIZE));
+    used.table = n + Record::SIZE;
+    Bytes::number(Answer::DONE)
 }
 
-// A call, in the front of the ledger's buffer.
-fn on_ledger(
-    kind: Kind,
-    f: &[u8],
-    n: usize,
-    m: usize,
-    ledger: &mut [u8],
-    table: &[u8],
-    out: &mut [u8],
-) -> Served
-    requires { (least kind ≤ length f.now) × ((Fitting n m ledger.old table.now) × (length out.old ≡ answer_most)) }
-    ensures { (result.count ≤ answer_most) × (placed result.ledger result.table ledger.new table.now (take result.count out.new) ≡ place (on_ledger (called kind f.now (take n ledger.old) (take m table.now)) (desk_in n m ledger.old table.now)) ledger.old table.now) }
-{
-    let count = call(kind, f, &mut ledger[..n], &table[..m], out);
-    Served::with(n, m, count)
-}
-
-// A frame, with n bytes of the ledger's buffer and m of the table's in use.
+// A frame, or what is none.
 pub fn serve(
     f: &[u8],
-    n: usize,
-    m: usize,
-    ledger: &mut [u8],
-    table: &mut [u8],
-    out: &mut [u8],
-) -> Served
-    requires { (Fitting n m ledger.old table.old) × (length out.old ≡ answer_most) }
-    ensures { (result.count ≤ answer_most) × (placed result.ledger result.table ledger.new table.new (take result.count out.new) ≡ place (serve (kind_of f.now) f.now (desk_in n m ledger.old table.old)) ledger.old table.old) }
+    used: &mut Used,
+    ledger: &mut [u8; Buffer::LEDGER],
+    table: &mut [u8; Buffer::TABLE],
+) -> Bytes
+    ensures { placed used.new.ledger used.new.table ledger.new table.new result ≡ place (serve (kind_of f.now) f.now (desk_in used.old.ledger used.old.table ledger.old table.old)) ledger.old table.old }
 {
-    match kind_of(f) {
-        Kind::Start => {
-            let w = start(f, n, ledger, out);
-            Served::with(w.used, m, w.count)
-        }
-        Kind::Push => on_ledger(Kind::Push, f, n, m, ledger, table, out),
-        Kind::Decide => on_ledger(Kind::Decide, f, n, m, ledger, table, out),
-        Kind::Token => on_ledger(Kind::Token, f, n, m, ledger, table, out),
-        Kind::Resource => on_ledger(Kind::Resource, f, n, m, ledger, table, out),
-        Kind::Sweep => on_ledger(Kind::Sweep, f, n, m, ledger, table, out),
-        Kind::Client => {
-            let w = append(f, m, table, out);
-            Served::with(n, w.used, w.count)
-        }
-        Kind::NoFrame => {
-            let count = write_number(out, Said::NO_FRAME);
-            Served::with(n, m, count)
-        }
+    let Some(kind) = kind_of(f) else {
+        return Bytes::number(Said::NO_FRAME);
+    };
+    match kind {
+        Kind::Start => start(f, used, ledger),
+        Kind::Client => append(f, used, table),
+        _ => call(kind, f, &mut ledger[..used.ledger], &table[..used.table]),
     }
 }

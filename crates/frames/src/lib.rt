@@ -8,3 +8,4 @@ mod kind;
 pub mod limit;
 pub mod line;
 pub mod served;
+mod used;

@@ -1,92 +1,51 @@
 // A line of the input: hexadecimal, a frame, and its answer's line.
-ghost use Rattle.std.specs.Prelude.{◌≡◌, ◌+◌, ◌*◌, ◌≤◌, ◌<◌, length, take};
+ghost use Rattle.std.specs.Prelude.{◌≡◌, ◌≤◌, length};
 ghost use Rattle.octets.specs.Parts.{laid};
-ghost use Rattle.wire.specs.Answers.{answer_most};
 ghost use Rattle.frames.specs.Limits.{answer_line};
 ghost use Rattle.frames.specs.Line.{line_of};
 ghost use Rattle.frames.specs.Serve.{serve_line};
-ghost use Rattle.frames.specs.Hold.{Fitting, desk_in, placed, place, fitting, said, say, answer};
+ghost use Rattle.frames.specs.Hold.{desk_in, placed, place, said, answer};
 
-use super::answer::write_number;
+use super::answer::Bytes;
 use super::kind::serve;
 use super::limit::{Answer, Buffer, Frame, Line};
 use super::served::Served;
+use super::used::Used;
 use texts::hex::decode;
 use wire::answer::Said;
 
-// An answer's line, over the front of the output.
-fn write_line(out: &mut [u8], bytes: &[u8])
-    requires { 2 * length bytes.now + 1 ≤ length out.old }
-    ensures { out.new ≡ laid (line_of bytes.now) out.old }
+// An answer's line, over the front of the output, and its length.
+#[tactic(auto, using(texts::proofs::Hexes::length_hex, crate::proofs::Lines::length_line))]
+fn write_line(out: &mut [u8], answer: &Bytes) -> usize
+    requires { answer_line ≤ length out.old }
+    ensures out_after { out.new ≡ laid (line_of answer.now) out.old }
+    ensures count_value { result ≡ length (line_of answer.now) }
+    ensures count_in_bounds { result ≤ answer_line }
 {
-    let end = texts::hex::write(out, 0, bytes);
+    let end = texts::hex::write(out, 0, answer.as_slice());
     out[end] = Line::END;
+    end + 1
 }
 
 // A line of the input: what is no line of hexadecimal, or too long, is no frame.
 fn serve_line(
     line: &[u8],
-    n: usize,
-    m: usize,
-    ledger: &mut [u8],
-    table: &mut [u8],
-    out: &mut [u8],
-) -> Served
-    requires { (Fitting n m ledger.old table.old) × (length out.old ≡ answer_most) }
-    ensures { (result.count ≤ answer_most) × (placed result.ledger result.table ledger.new table.new (take result.count out.new) ≡ place (serve_line line.now (desk_in n m ledger.old table.old)) ledger.old table.old) }
+    used: &mut Used,
+    ledger: &mut [u8; Buffer::LEDGER],
+    table: &mut [u8; Buffer::TABLE],
+) -> Bytes
+    ensures { placed used.new.ledger used.new.table ledger.new table.new result ≡ place (serve_line line.now (desk_in used.old.ledger used.old.table ledger.old table.old)) ledger.old table.old }
 {
-    if Line::MOST < line.len() {
-        let count = write_number(out, Said::NO_FRAME);
-        return Served::with(n, m, count);
-    }
     let mut bytes = [0u8; Frame::MOST];
-    if !decode(&mut bytes, line) {
-        let count = write_number(out, Said::NO_FRAME);
-        return Served::with(n, m, count);
+    if Line::MOST < line.len() || !decode(&mut bytes, line) {
+        return Bytes::number(Said::NO_FRAME);
     }
-    let end = line.len() / 2;
-    serve(&bytes[..end], n, m, ledger, table, out)
+    serve(&bytes[..line.len() / 2], used, ledger, table)
 }
 
-// A line of the input, and its answer's line over the front of the output.
-fn answer_fitting(
-    line: &[u8],
-    n: usize,
-    m: usize,
-    ledger: &mut [u8],
-    table: &mut [u8],
-    out: &mut [u8],
-) -> Served
-    requires { (Fitting n m ledger.old table.old) × (answer_line ≤ length out.old) }
-    ensures { (result.count ≤ length out.old) × (said result.ledger result.table result.count ledger.new table.new out.new ≡ say (place (serve_line line.now (desk_in n m ledger.old table.old)) ledger.old table.old) out.old) }
-{
-    let mut answer = [0u8; Said::MOST];
-    let r = serve_line(line, n, m, ledger, table, &mut answer);
-    let count = r.count;
-    write_line(out, &answer[..count]);
-    Served::with(r.ledger, r.table, 2 * count + 1)
-}
-
-// Whether the buffers have their sizes, with the lengths in use within them, and the output has room for every answer's line.
-fn fitting(n: usize, m: usize, ledger: &[u8], table: &[u8], out: &[u8]) -> bool
-    ensures { result ≡ fitting n m ledger.now table.now out.now }
-{
-    if Buffer::LEDGER < n {
-        return false;
-    }
-    if Buffer::TABLE < m {
-        return false;
-    }
-    if ledger.len() != Buffer::LEDGER {
-        return false;
-    }
-    if table.len() != Buffer::TABLE {
-        return false;
-    }
-    Answer::LINE <= out.len()
-}
-
-// A line of the input in its buffers: n bytes of the ledger's and m of the table's are in use. What does not fit is not served, and nothing changes.
+// A line of the input in its buffers: n bytes of the ledger's and m of the table's are in use. Where a buffer has not its size, a length in use is not within
+// it, or the output has no room for every answer's line, the line is not served, and nothing changes.
+// It promises so for all buffers and lengths, so they stay slices and numbers here; what fits goes on as arrays and `Used`.
 pub fn answer(
     line: &[u8],
     n: usize,
@@ -98,8 +57,19 @@ pub fn answer(
     ensures out_after { said result.ledger result.table result.count ledger.new table.new out.new ≡ answer line.now n m ledger.old table.old out.old }
     ensures count_in_bounds { result.count ≤ length out.old }
 {
-    if !fitting(n, m, ledger, table, out) {
+    let Some(mut used) = Used::within(n, m) else {
+        return Served::with(n, m, 0);
+    };
+    let Some(ledger) = ledger.as_mut_array() else {
+        return Served::with(n, m, 0);
+    };
+    let Some(table) = table.as_mut_array() else {
+        return Served::with(n, m, 0);
+    };
+    if out.len() < Answer::LINE {
         return Served::with(n, m, 0);
     }
-    answer_fitting(line, n, m, ledger, table, out)
+    let answer = serve_line(line, &mut used, ledger, table);
+    let count = write_line(out, &answer);
+    Served::with(used.ledger, used.table, count)
 }

@@ -14,9 +14,9 @@ impl Served {
         ensures { (result.ledger ≡ ledger) × ((result.table ≡ table) × (result.count ≡ count)) }
     {
         Served {
-            ledger: ledger,
-            table: table,
-            count: count,
+            ledger,
+            table,
+            count,
         }
     }
 }

@@ -1,4 +1,5 @@
-// The answers as C reads them: the desk's, field by field and in the same order.
+// The answers as C reads them: the desk's, field by field and in the same order. They are types of their own beside the desk's since repr(C) is the C
+// interface's.
 ghost use Rattle.std.specs.Prelude.{◌≡◌};
 ghost use Rattle.front.specs.Seen.{as_answer, as_decided, as_swept, as_introspected};
 
@@ -12,10 +13,10 @@ pub struct Answer {
     pub expiry: u64,
 }
 
-impl Answer {
-    pub fn of(a: desk::answer::Answer) -> Answer
-        ensures { as_answer result ≡ a }
-    {
+impl From<desk::answer::Answer> for Answer {
+    ghost from_gives = { λ a answer. as_answer answer ≡ a };
+
+    fn from(a: desk::answer::Answer) -> Answer {
         Answer {
             number: a.number,
             grant: a.grant,
@@ -33,13 +34,12 @@ pub struct Decided {
     pub length: u8,
 }
 
-impl Decided {
-    pub fn of(d: desk::answer::Decided) -> Decided
-        ensures { as_decided result ≡ d }
-    {
-        let a = d.answer;
+impl From<desk::answer::Decided> for Decided {
+    ghost from_gives = { λ d decided. as_decided decided ≡ d };
+
+    fn from(d: desk::answer::Decided) -> Decided {
         Decided {
-            answer: Answer::of(a),
+            answer: d.answer.into(),
             length: d.length,
         }
     }
@@ -54,10 +54,10 @@ pub struct Swept {
     pub redeemed: usize,
 }
 
-impl Swept {
-    pub fn of(s: desk::answer::Swept) -> Swept
-        ensures { as_swept result ≡ s }
-    {
+impl From<desk::answer::Swept> for Swept {
+    ghost from_gives = { λ s swept. as_swept swept ≡ s };
+
+    fn from(s: desk::answer::Swept) -> Swept {
         Swept {
             number: s.number,
             pushed: s.pushed,
@@ -74,10 +74,10 @@ pub struct Introspected {
     pub length: usize,
 }
 
-impl Introspected {
-    pub fn of(i: desk::answer::Introspected) -> Introspected
-        ensures { as_introspected result ≡ i }
-    {
+impl From<desk::answer::Introspected> for Introspected {
+    ghost from_gives = { λ i introspected. as_introspected introspected ≡ i };
+
+    fn from(i: desk::answer::Introspected) -> Introspected {
         Introspected {
             number: i.number,
             length: i.length,

@@ -19,6 +19,7 @@ ghost use Rattle.front.specs.Version.{version_number, interface_number};
 
 use answer::{Answer, Decided, Introspected, Swept};
 use choice::Choice;
+use desk::request::{DecideRequest, PushRequest, ResourceRequest, TokenRequest};
 use version::{Interface, Version};
 
 pub mod answer;
@@ -44,9 +45,15 @@ pub fn perdigolh_push(
 ) -> Answer
     ensures { left (as_answer result) ledger.new ≡ push ledger.old time table.now (record { client = client.now; key = key.now; scope = scope; challenge = challenge.now; redirect = redirect.now; fresh = fresh.now }) }
 {
-    Answer::of(push::push(
-        ledger, time, table, client, key, scope, challenge, redirect, fresh,
-    ))
+    let request = PushRequest {
+        client,
+        key,
+        scope,
+        challenge,
+        redirect,
+        fresh,
+    };
+    push::push(ledger, time, table, request).into()
 }
 
 pub fn perdigolh_decide(
@@ -61,10 +68,14 @@ pub fn perdigolh_decide(
 ) -> Decided
     ensures { left_with (as_decided result) ledger.new output.new ≡ decide ledger.old time (record { reference = reference.now; client = client.now; yes = consents yes; holder = holder; fresh = fresh.now }) output.old }
 {
-    let choice = Choice::consents(yes);
-    Decided::of(decide::decide(
-        ledger, time, reference, client, choice, holder, fresh, output,
-    ))
+    let request = DecideRequest {
+        reference,
+        client,
+        yes: Choice::consents(yes),
+        holder,
+        fresh,
+    };
+    decide::decide(ledger, time, request, output).into()
 }
 
 pub fn perdigolh_token(
@@ -80,9 +91,15 @@ pub fn perdigolh_token(
 ) -> Answer
     ensures { left (as_answer result) ledger.new ≡ token ledger.old time table.now (record { client = client.now; key = key.now; presented = presented.now; code = code.now; verifier = verifier.now; fresh = fresh.now }) }
 {
-    Answer::of(token::token(
-        ledger, time, table, client, key, presented, code, verifier, fresh,
-    ))
+    let request = TokenRequest {
+        client,
+        key,
+        presented,
+        code,
+        verifier,
+        fresh,
+    };
+    token::token(ledger, time, table, request).into()
 }
 
 pub fn perdigolh_resource(
@@ -95,13 +112,19 @@ pub fn perdigolh_resource(
 ) -> Answer
     ensures { left (as_answer result) ledger.new ≡ resource ledger.old time (record { token = token.now; presented = presented.now; scope = scope; holder = holder }) }
 {
-    Answer::of(resource::resource(ledger, time, token, presented, scope, holder))
+    let request = ResourceRequest {
+        token,
+        presented,
+        scope,
+        holder,
+    };
+    resource::resource(ledger, time, request).into()
 }
 
 pub fn perdigolh_sweep(ledger: &mut [u8], time: u64) -> Swept
     ensures { left (as_swept result) ledger.new ≡ sweep ledger.old time }
 {
-    Swept::of(sweep::sweep(ledger, time))
+    sweep::sweep(ledger, time).into()
 }
 
 // The request that waits, in the struct of decide's answer. The ledger is lent to be read only.
@@ -114,7 +137,7 @@ pub fn perdigolh_pending(
 ) -> Decided
     ensures { left_with (as_decided result) ledger.now output.new ≡ pending ledger.now time (record { reference = reference.now; client = client.now }) output.old }
 {
-    Decided::of(pending::pending(ledger, time, reference, client, output))
+    pending::pending(ledger, time, reference, client, output).into()
 }
 
 pub fn perdigolh_introspect(
@@ -125,7 +148,7 @@ pub fn perdigolh_introspect(
 ) -> Introspected
     ensures { left_with (as_introspected result) ledger.now output.new ≡ introspect ledger.now time token.now output.old }
 {
-    Introspected::of(introspect::introspect(ledger, time, token, output))
+    introspect::introspect(ledger, time, token, output).into()
 }
 
 pub fn perdigolh_version() -> u32

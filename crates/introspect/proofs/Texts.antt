@@ -1,17 +1,18 @@
 -- The text by what was found, and what its writer's answer says of the room.
+use Rattle.std.specs.Prelude.{Option, Some, None}
 use Prim.Native.Nat.{ℕ}
-use mathlib.Core.Path.{◌≡◌, refl, sym, ap, ◌∙◌}
-use mathlib.Core.Bool.{Bool, true, false, and-false}
+use mathlib.Core.Path.{◌≡◌, sym}
+use mathlib.Core.Bool.{true, false, and-false}
 use mathlib.Core.List.{List}
 use lib.Dec.{ltb, leb}
 use lib.ListN.{length}
 use borrow.Author.Tests.{leb-true, leb-false, le-ltb, lt-ltb}
+use Rattle.std.specs.Option.{is_some}
+use Rattle.octets.proofs.Tests.{some_told, some_is}
 use Rattle.octets.specs.Lists.{some}
 use Rattle.octets.specs.Parts.{put}
 use Rattle.description.specs.Description.{live_text, inactive_text}
 use Rattle.description.specs.Writing.{written, written_over}
-use Rattle.description.specs.declared.Written.{Written}
-use Rattle.description.specs.declared.Written.TheVariants.{Length, Short}
 use Rattle.ledger.specs.Fields.{records}
 use Rattle.ledger.specs.Checks.{is_token, expired}
 use Rattle.desk.specs.Introspect.{describes, shown, is_live, text_for}
@@ -33,38 +34,26 @@ module _ (l : List ℕ) (t : ℕ) (v : List ℕ) where
 
 -- ---- the answer of the text's writer
 
-abbrev is_long : Written → Bool
-is_long (Length n) = true
-is_long Short = false
-
-abbrev long_in : Written → ℕ
-long_in (Length n) = n
-long_in Short = 0
-
 module _ (text out : List ℕ) where
-  room_told : (a : Written) → written text out ≡ a → leb (length text) (length out) ≡ is_long a
+  room_told : (a : Option ℕ) → written text out ≡ a → leb (length text) (length out) ≡ is_some a
   unfolding written
-  room_told a e = go (leb (length text) (length out)) refl
-    where
-      go : (b : Bool) → leb (length text) (length out) ≡ b → leb (length text) (length out) ≡ is_long a
-      go true s = s ∙ ap is_long (rw s at e)
-      go false s = s ∙ ap is_long (rw s at e)
+  room_told a e = some_told _ _ a e
 
-  pub short_told : written text out ≡ Short → ltb (length out) (length text) ≡ true
-  short_told e = lt-ltb (length out) (length text) (leb-false (length text) (length out) (room_told Short e))
+  pub short_told : written text out ≡ None → ltb (length out) (length text) ≡ true
+  short_told e = lt-ltb (length out) (length text) (leb-false (length text) (length out) (room_told None e))
 
-  pub short_stays : written text out ≡ Short → written_over text out ≡ out
+  pub short_stays : written text out ≡ None → written_over text out ≡ out
   unfolding written_over
-  short_stays e = rw (room_told Short e)
+  short_stays e = rw (room_told None e)
 
-  module _ (n : ℕ) (e : written text out ≡ Length n) where
+  module _ (n : ℕ) (e : written text out ≡ Some n) where
     pub long_told : ltb (length out) (length text) ≡ false
-    long_told = le-ltb (length out) (length text) (leb-true (length text) (length out) (room_told (Length n) e))
+    long_told = le-ltb (length out) (length text) (leb-true (length text) (length out) (room_told (Some n) e))
 
     pub long_is : n ≡ length text
     unfolding written
-    long_is = let r = room_told (Length n) e in ap long_in (sym (rw r at e))
+    long_is = sym (some_is _ _ n e)
 
     pub long_over : written_over text out ≡ put out 0 text
     unfolding written_over
-    long_over = rw (room_told (Length n) e)
+    long_over = rw (room_told (Some n) e)

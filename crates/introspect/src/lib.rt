@@ -7,32 +7,31 @@ ghost use Rattle.description.specs.Writing.{written, written_over};
 ghost use Rattle.desk.specs.Outcome.{left_with};
 ghost use Rattle.desk.specs.Introspect.{text_for, introspect};
 
-use description::Written;
+use description::Description;
 use desk::answer::{Introspected, Refusal};
 use ledger::clock::Timing;
-use ledger::find::Found;
 use ledger::record::{Life, at, bound_key, check_life, client, expiry, holder, scope};
 use ledger::sound::Soundness;
 
 // The text for the token at this time: of its record, where there is one and it is alive.
-fn describe(ledger: &[u8], time: u64, token: &[u8; 32], output: &mut [u8]) -> Written
+fn describe(ledger: &[u8], time: u64, token: &[u8; 32], output: &mut [u8]) -> Option<usize>
     ensures { (result ≡ written (text_for ledger.now time token.now) output.old) × (output.new ≡ written_over (text_for ledger.now time token.now) output.old) }
 {
-    let Found::At(k) = finding::record::token(ledger, token) else {
+    let Some(k) = finding::record::token(ledger, token) else {
         return description::inactive(output);
     };
     let r = at(ledger, k);
     let Life::Alive = check_life(r, time) else {
         return description::inactive(output);
     };
-    description::live(
-        output,
-        client(r),
-        holder(r),
-        expiry(r),
-        scope(r),
-        bound_key(r),
-    )
+    let described = Description {
+        client: client(r),
+        holder: holder(r),
+        expiry: expiry(r),
+        scope: scope(r),
+        key: bound_key(r),
+    };
+    description::live(output, described)
 }
 
 pub fn introspect(ledger: &[u8], time: u64, token: &[u8; 32], output: &mut [u8]) -> Introspected
@@ -44,7 +43,7 @@ pub fn introspect(ledger: &[u8], time: u64, token: &[u8; 32], output: &mut [u8])
     let Timing::Timely = ledger::clock::check(ledger, time) else {
         return Introspected::refused(Refusal::TimeWrong);
     };
-    let Written::Length(n) = describe(ledger, time, token, output) else {
+    let Some(n) = describe(ledger, time, token, output) else {
         return Introspected::refused(Refusal::OutputShort);
     };
     Introspected::with(n)

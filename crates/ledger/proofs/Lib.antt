@@ -1,7 +1,6 @@
 -- The laws of the ledger.
 pub mod Records
 pub mod States
-pub mod Loops
 pub mod Swept
 pub mod Tests
 pub mod Profile

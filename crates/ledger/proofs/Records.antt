@@ -1,12 +1,14 @@
 -- Laws of records: their number, their places, one replaced.
-use Rattle.std.proofs.Common.{◌≡◌, ℕ, ◌+◌, ◌-◌, ◌%◌, ◌^◌, ◌<◌, ◌≤◌, ◌≢◌, List, [], length, get_or, set, sym, ◌∙◌, arith, length-set, drop_of_length-le, get_or-set_other, get_or-set_same, ext_get_or}
+use Rattle.std.proofs.Common.{◌≡◌, ℕ, ◌+◌, ◌-◌, ◌*◌, ◌/◌, ◌%◌, ◌^◌, ◌<◌, ◌≤◌, ◌≢◌, List, [], length, get_or, set, drop, length-drop, sym, ◌∙◌, arith, length-set, drop_of_length-le, get_or-set_other, get_or-set_same, ext_get_or}
 use native.Mathlib.Nat.{add-sub_cancel_left}
 use native.Mathlib.Decide.{ℕ_discrete, dec_lt}
-use lib.Seq.{take-nil}
+use lib.Seq.{take-nil, drop-drop}
+use Rattle.std.specs.Simd.{first_chunks}
 use Rattle.octets.specs.Parts.{part, splice}
 use Rattle.octets.proofs.Parts.{part_length, splice_length, part_same, part_before, part_behind}
-use Rattle.octets.proofs.Tabulate.{length_tabulate, get_d_tabulate}
-use Rattle.ledger.specs.Limits.{record_size}
+use Rattle.octets.proofs.Tabulate.{length_tabulate, get_d_tabulate, tabulate_same}
+use Rattle.octets.proofs.Chunks.{chunks_tabulate}
+use Rattle.ledger.specs.Limits.{head_size, record_size}
 use Rattle.ledger.specs.Fields.{address, rec, slots, records, with_record}
 
 -- a place below the number of records is within the ledger
@@ -32,6 +34,13 @@ length_records l = length_tabulate (rec l) (slots l)
 pub records_at : (l : List ℕ) (k : ℕ) → k < slots l → get_or (records l) k [] ≡ rec l k
 unfolding records
 records_at l k h = get_d_tabulate (rec l) [] (slots l) k h
+
+-- what is cut behind the head
+pub records_cut : (l : List ℕ) → first_chunks record_size (length (drop head_size l) / record_size) (drop head_size l) ≡ records l
+unfolding records rec slots
+records_cut l =
+    chunks_tabulate record_size _ (drop head_size l)
+    ∙ rw length-drop (tabulate_same _ _ (slots l) (λ k h. let e : head_size + record_size * k ≡ address k = omega arith in rw (drop-drop, e)))
 
 -- ---- one record replaced
 

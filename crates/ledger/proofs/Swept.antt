@@ -1,19 +1,16 @@
 -- What a sweep leaves, record by record, and what it counts.
-use Rattle.std.proofs.Common.{◌≡◌, ℕ, zero, suc, ◌+◌, ◌*◌, ◌<◌, ◌≤◌, Bool, true, false, cond, ◌&&◌, List, [], ◌++◌, length, take, drop, sym, refl, ap, ◌∙◌, add-one, arith, take-append-drop}
+use Rattle.std.proofs.Common.{◌≡◌, ℕ, zero, suc, ◌+◌, ◌<◌, ◌≤◌, Bool, true, false, cond, ◌&&◌, List, ◌++◌, length, take, drop, sym, refl, ap, ◌∙◌, add-one, arith, take-append-drop}
 use native.Mathlib.Decide.{ℕ_discrete}
-use Rattle.octets.specs.Lists.{bit, count}
 use Rattle.octets.specs.Parts.{blank}
-use Rattle.octets.proofs.Lists.{count_more, count_end}
 use Rattle.octets.proofs.Parts.{length_blank}
 use Rattle.ledger.specs.Limits.{record_size}
-use Rattle.ledger.specs.Fields.{address, rec, slots, records, with_record, used}
+use Rattle.ledger.specs.Fields.{address, rec, slots, with_record, used}
 use Rattle.ledger.specs.Checks.{expired}
 use Rattle.ledger.specs.Write.{free}
-use Rattle.ledger.specs.Sweep.{swept_record, swept_to, swept, due, freed_of, freed}
-use Rattle.ledger.specs.declared.state.State.{State}
+use Rattle.ledger.specs.Sweep.{swept_record, swept_to, swept, freed_of, freed}
 use Rattle.ledger.specs.declared.state.State.TheVariants.{Pushed, Consented, Redeemed}
 use Rattle.ledger.specs.declared.sweep.Freed.{Freed}
-use Rattle.ledger.proofs.Records.{rec_length, length_records, records_at, length_with, slots_with, rec_same, rec_other}
+use Rattle.ledger.proofs.Records.{rec_length, length_with, slots_with, rec_same, rec_other}
 
 -- a record put back as it was
 pub with_self : (l : List ℕ) (k : ℕ) → with_record l k (rec l k) ≡ l
@@ -90,45 +87,6 @@ module _ (t : ℕ) (l : List ℕ) where
   pub slots_swept : slots (swept t l) ≡ slots l
   unfolding swept
   slots_swept = slots_to (slots l) (omega arith)
-
-  -- the count of a kind, so far and from record k on
-  pub due_more : (s : State) (k : ℕ) → k < slots l → count (due s t) (drop k (records l)) ≡ bit (due s t (rec l k)) + count (due s t) (drop (k + 1) (records l))
-  due_more s k h = count_more (due s t) (records l) [] k (rw (length_records l) h) ∙ rw (records_at l k h)
-
-  pub due_end : (s : State) (k : ℕ) → slots l ≤ k → count (due s t) (drop k (records l)) ≡ 0
-  due_end s k h = count_end (due s t) (records l) k (rw (length_records l) h)
-
--- what a sweep has counted of one kind when it has come to record k
-pub record Tally (s : State) (t : ℕ) (l : List ℕ) (x k : ℕ) : Type 0 where
-  pub most : x ≤ k
-  pub so : freed_of s t l ≡ x + count (due s t) (drop k (records l))
-
-pub tally_none : (s : State) (t : ℕ) (l : List ℕ) → Tally s t l 0 0
-unfolding freed_of
-tally_none s t l = record { most = omega arith; so = omega arith }
-
-bit_most : (b : Bool) → bit b ≤ 1
-bit_most true = omega arith
-bit_most false = omega arith
-
-pub tally_more : (s : State) (t : ℕ) (l : List ℕ) (x y k : ℕ) → k < slots l → y ≡ x + bit (due s t (rec l k)) → Tally s t l x k → Tally s t l y (k + 1)
-tally_more s t l x y k h e a =
-    let m = a.most in
-    let o = a.so in
-    let d = due_more t l s k h in
-    let b = bit_most (due s t (rec l k)) in
-    record { most = omega arith; so = omega arith }
-
-pub tally_all : (s : State) (t : ℕ) (l : List ℕ) (x k : ℕ) → slots l ≤ k → Tally s t l x k → x ≡ freed_of s t l
-tally_all s t l x k h a =
-    let o = a.so in
-    let d = due_end t l s k h in
-    omega arith
-
--- there are fewer records than bytes
-pub slots_small : (l : List ℕ) → slots l * record_size ≤ length l
-unfolding slots
-slots_small l = omega arith
 
 pub slot_so : (t : ℕ) (l m : List ℕ) (k : ℕ) → m ≡ swept_to t l k → k < slots l → k < slots m
 slot_so t l m k e h = rw (e, slots_to t l k (omega arith)) h

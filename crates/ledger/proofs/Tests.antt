@@ -1,6 +1,9 @@
 -- What a check's answer says of its condition, in the words of the table "Numbers returned".
-use Rattle.std.proofs.Common.{◌≡◌, ℕ, Bool, true, false, cond, List, sym, refl, ap, ◌∙◌, arith}
+use Rattle.std.proofs.Common.{◌≡◌, ℕ, Bool, true, false, cond, List, sym, refl, ap, ◌∙◌, position, Option, Some}
+use Rattle.std.specs.Option.{is_some}
+use Rattle.octets.proofs.Tests.{some_told, some_is}
 use Rattle.octets.specs.Lists.{some, place}
+use Rattle.octets.proofs.Lists.{position_is}
 use Rattle.ledger.specs.Fields.{records}
 use Rattle.ledger.specs.Sound.{sized, sound}
 use Rattle.ledger.specs.Checks.{
@@ -22,8 +25,6 @@ use Rattle.ledger.specs.declared.clock.Timing.{Timing}
 use Rattle.ledger.specs.declared.clock.Timing.TheVariants.{Timely, Untimely}
 use Rattle.ledger.specs.declared.pool.Value.{Value}
 use Rattle.ledger.specs.declared.pool.Value.TheVariants.{New, Taken}
-use Rattle.ledger.specs.declared.find.Found.{Found}
-use Rattle.ledger.specs.declared.find.Found.TheVariants.{At, Nothing}
 use Rattle.ledger.specs.declared.record.Life.{Life}
 use Rattle.ledger.specs.declared.record.Life.TheVariants.{Alive, Expired}
 
@@ -52,14 +53,6 @@ abbrev is_expired : Life → Bool
 is_expired Alive = false
 is_expired Expired = true
 
-abbrev is_at : Found → Bool
-is_at (At k) = true
-is_at Nothing = false
-
-abbrev place_in : Found → ℕ
-place_in (At k) = k
-place_in Nothing = 0
-
 pub size_told : (l : List ℕ) (a : Size) → check_size l ≡ a → sized l ≡ is_right a
 unfolding check_size
 size_told l a e = told is_right Right Wrong refl refl (sized l) a e
@@ -80,14 +73,15 @@ pub life_told : (r : List ℕ) (t : ℕ) (a : Life) → check_life r t ≡ a →
 unfolding check_life
 life_told r t a e = told is_expired Expired Alive refl refl (expired t r) a e
 
-pub found_told : (q : List ℕ → Bool) (l : List ℕ) (a : Found) → found q l ≡ a → some q (records l) ≡ is_at a
+-- the first record, as std's position answers it
+pub found_is : (q : List ℕ → Bool) (l : List ℕ) → position q (records l) ≡ found q l
 unfolding found
-found_told q l a e = told is_at (At (place q (records l))) Nothing refl refl (some q (records l)) a e
+found_is q l = position_is q (records l)
 
-pub found_place : (q : List ℕ → Bool) (l : List ℕ) (k : ℕ) → found q l ≡ At k → place q (records l) ≡ k
+pub found_told : (q : List ℕ → Bool) (l : List ℕ) (a : Option ℕ) → found q l ≡ a → some q (records l) ≡ is_some a
 unfolding found
-found_place q l k e = go (some q (records l)) refl
-  where
-    go : (b : Bool) → some q (records l) ≡ b → place q (records l) ≡ k
-    go true s = ap place_in (rw s at e)
-    go false s = let n : Nothing ≡ At k = rw s at e in let z : ◌≡◌ {A = ℕ} 0 1 = cc in absurd (omega arith)
+found_told q l a e = some_told _ _ a e
+
+pub found_place : (q : List ℕ → Bool) (l : List ℕ) (k : ℕ) → found q l ≡ Some k → place q (records l) ≡ k
+unfolding found
+found_place q l k e = some_is _ _ k e

@@ -1,5 +1,5 @@
 -- What the calls ask of a ledger: the checks that they share, each by the enum that its function answers.
-use Rattle.std.specs.Prelude.{ℕ, Bool, cond, ◌&&◌, ◌||◌, List, nat_le, nat_lt}
+use Rattle.std.specs.Prelude.{ℕ, Bool, cond, ◌&&◌, ◌||◌, List, nat_le, nat_lt, Option, Some, None}
 use Rattle.octets.specs.Lists.{some, place}
 use Rattle.octets.specs.Parts.{zeros, same}
 use Rattle.ledger.specs.Limits.{clock_limit}
@@ -14,10 +14,6 @@ use Rattle.ledger.specs.declared.clock.Timing.{Timing}
 use Rattle.ledger.specs.declared.clock.Timing.TheVariants.{Timely, Untimely}
 use Rattle.ledger.specs.declared.pool.Value.{Value}
 use Rattle.ledger.specs.declared.pool.Value.TheVariants.{New, Taken}
-use Rattle.ledger.specs.declared.find.Found.{Found}
-use Rattle.ledger.specs.declared.find.Found.TheVariants.{At, Nothing}
-use Rattle.ledger.specs.declared.find.Kind.{Kind}
-use Rattle.ledger.specs.declared.find.Kind.TheVariants.{Vacant, Reference, Code, Token}
 use Rattle.ledger.specs.declared.record.Life.{Life}
 use Rattle.ledger.specs.declared.record.Life.TheVariants.{Alive, Expired}
 
@@ -51,8 +47,8 @@ unfoldable pub check_life : List ℕ → ℕ → Life
 check_life r t = cond (expired t r) Expired Alive
 
 -- the first record, in ledger order, that passes a test
-unfoldable pub found : (List ℕ → Bool) → List ℕ → Found
-found q l = cond (some q (records l)) (At (place q (records l))) Nothing
+unfoldable pub found : (List ℕ → Bool) → List ℕ → Option ℕ
+found q l = cond (some q (records l)) (Some (place q (records l))) None
 
 -- 8: "no free record"
 unfoldable pub is_free : List ℕ → Bool
@@ -73,10 +69,3 @@ is_code v c r = (in_state Consented r || in_state Redeemed r) && is_with v c r
 -- 17: "no record in state 3 with this token"
 unfoldable pub is_token : List ℕ → List ℕ → Bool
 is_token v r = in_state Redeemed r && same (token r) v
-
--- the record that a call asks for, by its kind
-unfoldable pub wanted : Kind → List ℕ → List ℕ → List ℕ → Bool
-wanted Vacant v c r = is_free r
-wanted Reference v c r = is_reference v c r
-wanted Code v c r = is_code v c r
-wanted Token v c r = is_token v r

@@ -1,5 +1,5 @@
 -- Where the fields of a ledger are (document 01, section "Ledger"): each place named once, to read it and to write it.
-use Rattle.std.specs.Prelude.{ℕ, zero, suc, ◌+◌, ◌-◌, ◌*◌, ◌/◌, Bool, not, List, [], ◌∷◌, length, drop, ◌==◌, slice_index}
+use Rattle.std.specs.Prelude.{ℕ, zero, suc, ◌+◌, ◌-◌, ◌*◌, ◌/◌, Bool, not, List, [], ◌∷◌, length, drop, ◌==◌, slice_index, Option, Some, None}
 use Rattle.octets.specs.Lists.{tabulate}
 use Rattle.octets.specs.Numbers.{num, digits}
 use Rattle.octets.specs.Parts.{part, splice}
@@ -7,8 +7,6 @@ use Rattle.octets.specs.Spans.{Span, span, field, with_field}
 use Rattle.ledger.specs.Limits.{head_size, record_size}
 use Rattle.ledger.specs.declared.state.State.{State}
 use Rattle.ledger.specs.declared.state.State.TheVariants.{Free, Pushed, Consented, Redeemed}
-use Rattle.ledger.specs.declared.state.Stated.{Stated}
-use Rattle.ledger.specs.declared.state.Stated.TheVariants.{Is, Unknown}
 
 -- ---- "Head: 0..8 clock; 8..16 next grant number; 16..32 zero."
 
@@ -71,17 +69,17 @@ state_number Consented = 2
 state_number Redeemed = 3
 
 -- the state of which this is the number
-unfoldable pub stated : ℕ → Stated
-stated zero = Is Free
-stated (suc zero) = Is Pushed
-stated (suc (suc zero)) = Is Consented
-stated (suc (suc (suc zero))) = Is Redeemed
-stated (suc (suc (suc (suc n)))) = Unknown
+unfoldable pub stated : ℕ → Option State
+stated zero = Some Free
+stated (suc zero) = Some Pushed
+stated (suc (suc zero)) = Some Consented
+stated (suc (suc (suc zero))) = Some Redeemed
+stated (suc (suc (suc (suc n)))) = None
 
 abbrev pub state : List ℕ → ℕ
 state r = slice_index r state_span.place
 
-abbrev pub state_of : List ℕ → Stated
+abbrev pub state_of : List ℕ → Option State
 state_of r = stated (state r)
 
 abbrev pub in_state : State → List ℕ → Bool

@@ -1,5 +1,5 @@
 -- When a ledger is sound (document 01, section "Ledger", "Sound: .."), rule by rule in its order.
-use Rattle.std.specs.Prelude.{ℕ, ◌+◌, ◌-◌, ◌*◌, ◌%◌, Bool, false, not, ◌&&◌, ◌||◌, List, length, ◌==◌, nat_le, nat_lt}
+use Rattle.std.specs.Prelude.{ℕ, ◌+◌, ◌-◌, ◌*◌, ◌%◌, Bool, false, not, ◌&&◌, ◌||◌, List, length, ◌==◌, nat_le, nat_lt, Option, Some, None}
 use Rattle.octets.specs.Lists.{every, apart}
 use Rattle.octets.specs.Parts.{zeros, same}
 use Rattle.forms.specs.Limits.{redirect_least, redirect_most}
@@ -29,8 +29,6 @@ use Rattle.ledger.specs.Fields.{
 }
 use Rattle.ledger.specs.declared.state.State.{State}
 use Rattle.ledger.specs.declared.state.State.TheVariants.{Free, Pushed, Consented, Redeemed}
-use Rattle.ledger.specs.declared.state.Stated.{Stated}
-use Rattle.ledger.specs.declared.state.Stated.TheVariants.{Is, Unknown}
 
 -- "A 32-byte head and 1 to 200 records of 256 bytes, so 288 to 51,232 bytes."
 unfoldable pub sized : List ℕ → Bool
@@ -117,9 +115,9 @@ sound_in Consented next r = used_sound next r && (some_holder r && no_token r)
 sound_in Redeemed next r = used_sound next r && (some_holder r && some_token r)
 
 -- and "no state above 3"
-abbrev pub sound_as : Stated → ℕ → List ℕ → Bool
-sound_as (Is s) next r = sound_in s next r
-sound_as Unknown next r = false
+abbrev pub sound_as : Option State → ℕ → List ℕ → Bool
+sound_as (Some s) next r = sound_in s next r
+sound_as None next r = false
 
 -- a record, by its state
 unfoldable pub record_sound : ℕ → List ℕ → Bool

@@ -5,31 +5,31 @@ ghost use Rattle.ledger.specs.Checks.{check_time};
 
 use super::field::Head;
 use super::limit::Clock;
-use octets::number::{bytes64, read64};
+use octets::number::Number;
 use octets::part::{from, put};
 
 pub fn clock(l: &[u8]) -> u64
     ensures { result ≡ clock l.now }
 {
-    read64(from(l, Head::CLOCK))
+    u64::read(from(l, Head::CLOCK))
 }
 
 pub fn next_number(l: &[u8]) -> u64
     ensures { result ≡ next_number l.now }
 {
-    read64(from(l, Head::NEXT))
+    u64::read(from(l, Head::NEXT))
 }
 
 pub fn set_clock(l: &mut [u8], time: u64)
     ensures { l.new ≡ with_clock time l.old }
 {
-    put(l, Head::CLOCK, &bytes64(time));
+    put(l, Head::CLOCK, &time.bytes());
 }
 
 pub fn set_next(l: &mut [u8], number: u64)
     ensures { l.new ≡ with_next number l.old }
 {
-    put(l, Head::NEXT, &bytes64(number));
+    put(l, Head::NEXT, &number.bytes());
 }
 
 #[derive(Clone, Copy)]
@@ -42,10 +42,7 @@ pub enum Timing {
 pub fn check(l: &[u8], time: u64) -> Timing
     ensures { result ≡ check_time l.now time }
 {
-    if time < clock(l) {
-        return Timing::Untimely;
-    }
-    if Clock::LIMIT <= time {
+    if time < clock(l) || Clock::LIMIT <= time {
         return Timing::Untimely;
     }
     Timing::Timely

@@ -4,7 +4,6 @@
 
 pub mod clock;
 pub mod field;
-pub mod find;
 pub mod limit;
 pub mod pool;
 pub mod record;

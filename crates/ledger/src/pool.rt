@@ -15,11 +15,5 @@ pub enum Value {
 pub fn holds(v: &[u8], r: &[u8]) -> bool
     ensures { result ≡ holds v.now r.now }
 {
-    if is_zero(v) {
-        return false;
-    }
-    if same(v, value(r)) {
-        return true;
-    }
-    same(v, token(r))
+    !is_zero(v) && (same(v, value(r)) || same(v, token(r)))
 }

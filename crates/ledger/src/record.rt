@@ -1,11 +1,11 @@
 // A record of the ledger, and its fields, for any slice.
 ghost use Rattle.std.specs.Prelude.{◌≡◌, ◌%◌, ◌^◌};
-ghost use Rattle.ledger.specs.Fields.{address, rec, slots, redirect_length, scope, grant, expiry, holder, client, challenge, value, token, bound_key, redirect_field};
+ghost use Rattle.ledger.specs.Fields.{address, rec, slots, records, redirect_length, scope, grant, expiry, holder, client, challenge, value, token, bound_key, redirect_field};
 ghost use Rattle.ledger.specs.Checks.{check_life};
 
 use super::field::Field;
 use super::limit::Ledger;
-use octets::number::{read32, read64};
+use octets::number::Number;
 use octets::part::{cut, from};
 
 // How many records there are.
@@ -17,6 +17,15 @@ pub fn slots(l: &[u8]) -> usize
         return 0;
     }
     (n - Ledger::HEAD) / Ledger::RECORD
+}
+
+pub type Record = [u8; Ledger::RECORD];
+
+// The records, in ledger order.
+pub fn records(l: &[u8]) -> &[Record]
+    ensures { result.now ≡ records l.now }
+{
+    from(l, Ledger::HEAD).as_chunks::<{ Ledger::RECORD }>().0
 }
 
 // Where record k begins. Any k may be asked: one that no ledger reaches wraps, as machine numbers do.
@@ -48,25 +57,25 @@ pub fn redirect_length(r: &[u8]) -> u8
 pub fn scope(r: &[u8]) -> u32
     ensures { result ≡ scope r.now }
 {
-    read32(from(r, Field::SCOPE))
+    u32::read(from(r, Field::SCOPE))
 }
 
 pub fn grant(r: &[u8]) -> u64
     ensures { result ≡ grant r.now }
 {
-    read64(from(r, Field::GRANT))
+    u64::read(from(r, Field::GRANT))
 }
 
 pub fn expiry(r: &[u8]) -> u64
     ensures { result ≡ expiry r.now }
 {
-    read64(from(r, Field::EXPIRY))
+    u64::read(from(r, Field::EXPIRY))
 }
 
 pub fn holder(r: &[u8]) -> u64
     ensures { result ≡ holder r.now }
 {
-    read64(from(r, Field::HOLDER))
+    u64::read(from(r, Field::HOLDER))
 }
 
 pub fn client(r: &[u8]) -> &[u8]

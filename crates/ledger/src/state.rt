@@ -6,40 +6,31 @@ use super::field::Field;
 
 #[derive(Clone, Copy)]
 pub enum State {
-    Free,
-    Pushed,
-    Consented,
-    Redeemed,
+    Free = 0,
+    Pushed = 1,
+    Consented = 2,
+    Redeemed = 3,
 }
 
-// What a state byte says: one of the states, or none that there is.
-#[derive(Clone, Copy)]
-pub enum Stated {
-    Is(State),
-    Unknown,
+impl From<State> for u8 {
+    ghost from_gives = { λ s number. number ≡ state_number s };
+
+    fn from(s: State) -> u8 {
+        s as u8
+    }
 }
 
 impl State {
-    pub fn number(self) -> u8
-        ensures { result ≡ state_number self }
-    {
-        match self {
-            State::Free => 0,
-            State::Pushed => 1,
-            State::Consented => 2,
-            State::Redeemed => 3,
-        }
-    }
-
-    pub fn of(r: &[u8]) -> Stated
+    // What the state byte says, where there is such a state.
+    pub fn of(r: &[u8]) -> Option<State>
         ensures { result ≡ state_of r.now }
     {
         match byte(r) {
-            0 => Stated::Is(State::Free),
-            1 => Stated::Is(State::Pushed),
-            2 => Stated::Is(State::Consented),
-            3 => Stated::Is(State::Redeemed),
-            _ => Stated::Unknown,
+            0 => Some(State::Free),
+            1 => Some(State::Pushed),
+            2 => Some(State::Consented),
+            3 => Some(State::Redeemed),
+            _ => None,
         }
     }
 }
@@ -57,5 +48,5 @@ fn byte(r: &[u8]) -> u8
 pub fn is_in(r: &[u8], s: State) -> bool
     ensures { result ≡ in_state s r.now }
 {
-    byte(r) == s.number()
+    byte(r) == u8::from(s)
 }

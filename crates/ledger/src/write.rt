@@ -5,13 +5,13 @@ ghost use Rattle.ledger.specs.Write.{pushed, consented, redeemed};
 
 use super::field::Field;
 use super::state::State;
-use octets::number::{bytes32, bytes64};
+use octets::number::Number;
 use octets::part::put;
 
 fn set_state(r: &mut [u8], s: State)
     ensures { r.new ≡ with_state s r.old }
 {
-    put(r, Field::STATE, &[s.number()]);
+    put(r, Field::STATE, &[u8::from(s)]);
 }
 
 // What a push leaves behind its numbers: who may decide, redeem and be sent back, and by which reference.
@@ -29,9 +29,9 @@ fn set_numbers(r: &mut [u8], length: usize, scope: u32, grant: u64, expiry: u64)
     ensures { r.new ≡ with_expiry expiry (with_grant grant (with_scope scope (with_redirect_length length r.old))) }
 {
     put(r, Field::LENGTH, &[(length % 256) as u8]);
-    put(r, Field::SCOPE, &bytes32(scope));
-    put(r, Field::GRANT, &bytes64(grant));
-    put(r, Field::EXPIRY, &bytes64(expiry));
+    put(r, Field::SCOPE, &scope.bytes());
+    put(r, Field::GRANT, &grant.bytes());
+    put(r, Field::EXPIRY, &expiry.bytes());
 }
 
 pub fn pushed(
@@ -55,8 +55,8 @@ pub fn consented(r: &mut [u8], expiry: u64, holder: u64, fresh: &[u8; 32])
     ensures { r.new ≡ consented expiry holder fresh.now r.old }
 {
     set_state(r, State::Consented);
-    put(r, Field::EXPIRY, &bytes64(expiry));
-    put(r, Field::HOLDER, &bytes64(holder));
+    put(r, Field::EXPIRY, &expiry.bytes());
+    put(r, Field::HOLDER, &holder.bytes());
     put(r, Field::VALUE, fresh);
 }
 
@@ -64,7 +64,7 @@ pub fn redeemed(r: &mut [u8], expiry: u64, fresh: &[u8; 32], key: &[u8; 32])
     ensures { r.new ≡ redeemed expiry fresh.now key.now r.old }
 {
     set_state(r, State::Redeemed);
-    put(r, Field::EXPIRY, &bytes64(expiry));
+    put(r, Field::EXPIRY, &expiry.bytes());
     put(r, Field::TOKEN, fresh);
     put(r, Field::KEY, key);
 }

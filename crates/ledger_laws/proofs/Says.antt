@@ -1,4 +1,5 @@
 -- What soundness and the searches say of every record, both ways.
+use Rattle.std.specs.Prelude.{Option}
 use Prim.Native.Nat.{ℕ, ◌+◌, ◌*◌, ◌-◌, ◌%◌, ◌≤◌, ◌<◌}
 use native.Mathlib.Omega.{arith}
 use native.Mathlib.Decide.{dec_lt}
@@ -20,8 +21,8 @@ use Rattle.ledger.specs.Limits.{clock_limit, expiry_limit, head_size, record_siz
 use Rattle.ledger.specs.Fields.{clock, next_number, head_rest, rec, slots, records, state, state_number, stated, used, redirect_length, gap_one, gap_two, scope, grant, expiry, holder, client, challenge, value, token, bound_key, redirect, behind_redirect}
 use Rattle.ledger.specs.Sound.{sized, numbers_sound, bytes_sound, used_sound, no_token, some_token, sound_in, sound_as, record_sound, same_grant, holds, meets, own_apart, head_sound, sound}
 use Rattle.ledger.specs.Write.{free}
+use Rattle.ledger.specs.declared.state.State.{State}
 use Rattle.ledger.specs.declared.state.State.TheVariants.{Free, Pushed, Consented, Redeemed}
-use Rattle.ledger.specs.declared.state.Stated.{Stated}
 use Rattle.ledger.proofs.States.{state_cases}
 use Rattle.ledger.proofs.Records.{length_records, records_at}
 
@@ -181,7 +182,7 @@ module _ (next : ℕ) (r : List ℕ) where
 
   record_as : (n : ℕ) → state r ≡ n → (sound_as (stated n) next r ≡ true) ↔ SoundRecord next r
   record_as =
-      state_cases (λ (n : ℕ) (x : Stated). state r ≡ n → (sound_as x next r ≡ true) ↔ SoundRecord next r)
+      state_cases (λ (n : ℕ) (x : Option State). state r ≡ n → (sound_as x next r ≡ true) ↔ SoundRecord next r)
       (λ st. (λ e. record { when_free = λ z. e; when_used = λ n. absurd (n st) }, λ s. s.when_free st))
       (in_use (state_number Pushed) (sound_in Pushed next r) (λ e. omega arith) when_pushed)
       (in_use (state_number Consented) (sound_in Consented next r) (λ e. omega arith) when_consented)

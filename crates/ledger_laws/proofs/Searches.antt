@@ -1,4 +1,5 @@
 -- What a search of the records says: the first such record and none before it; in a sound ledger, the only one.
+use Rattle.std.specs.Prelude.{Some, None}
 use Prim.Native.Nat.{ℕ, zero, suc, ◌<◌}
 use native.Mathlib.Omega.{arith}
 use native.Mathlib.Decide.{ℕ_discrete, dec_lt}
@@ -18,7 +19,6 @@ use Rattle.ledger.specs.Sound.{holds, sound}
 use Rattle.ledger.specs.Checks.{taken, found, is_free, is_with, is_reference, is_code, is_token}
 use Rattle.ledger.specs.Write.{free}
 use Rattle.ledger.specs.declared.state.State.TheVariants.{Free, Pushed, Consented, Redeemed}
-use Rattle.ledger.specs.declared.find.Found.TheVariants.{At, Nothing}
 use Rattle.ledger.proofs.Records.{length_records, records_at, rec_length}
 use Rattle.ledger_laws.proofs.Says.{either, neither, SoundRecord, SoundRecords, Of, holds_says, free_is, of_sound}
 
@@ -63,23 +63,23 @@ module _ (q : List ℕ → Bool) (l : List ℕ) where
       go (no h) (yes m) = absurd (true≢false (sym b.passes ∙ a.before k m))
       go (no h) (no m) = omega (arith, h, m)
 
-  pub found_first : (k : ℕ) → found q l ≡ At k → First q l k
+  pub found_first : (k : ℕ) → found q l ≡ Some k → First q l k
   unfolding found
   found_first k e = go (some q (records l)) refl
     where
       go : (b : Bool) → some q (records l) ≡ b → First q l k
       go true s =
-          let f : At (place q (records l)) ≡ At k = rw s at e in
+          let f : Some (place q (records l)) ≡ Some k = rw s at e in
           let p : place q (records l) ≡ k = cc in
           rw (← p) (first_in s)
-      go false s = let n : Nothing ≡ At k = rw s at e in let z : ◌≡◌ {A = ℕ} 0 1 = cc in absurd (omega arith)
+      go false s = let n : None ≡ Some k = rw s at e in let z : ◌≡◌ {A = ℕ} 0 1 = cc in absurd (omega arith)
 
-  pub found_none : found q l ≡ Nothing → (k : ℕ) → k < slots l → q (rec l k) ≡ false
+  pub found_none : found q l ≡ None → (k : ℕ) → k < slots l → q (rec l k) ≡ false
   unfolding found
   found_none e k h = go (some q (records l)) refl
     where
       go : (b : Bool) → some q (records l) ≡ b → q (rec l k) ≡ false
-      go true s = let n : At (place q (records l)) ≡ Nothing = rw s at e in let z : ◌≡◌ {A = ℕ} 0 1 = cc in absurd (omega arith)
+      go true s = let n : Some (place q (records l)) ≡ None = rw s at e in let z : ◌≡◌ {A = ℕ} 0 1 = cc in absurd (omega arith)
       go false s = none_in s k h
 
 -- ---- what is asked of a record

@@ -12,7 +12,7 @@ use borrow.Author.Tests.{leb-true, leb-false, eqb-true, le-leb, lt-leb, eq-eqb, 
 use Rattle.octets.specs.Parts.{laid}
 use Rattle.octets.proofs.Parts.{length_laid}
 use Rattle.octets.proofs.Tests.{both}
-use Rattle.wire.specs.declared.kind.Kind.TheVariants.{NoFrame}
+use Rattle.std.proofs.Common.{None}
 use Rattle.frames.specs.Limits.{line_most, line_kept, ledger_most, table_most, answer_line}
 use Rattle.texts.specs.Hex.{decoded}
 use Rattle.frames.specs.Line.{line_end, line_of}
@@ -51,25 +51,22 @@ of_fits h e =
       listed = leb-true h.state.table table_most f.1;
     }
 
-pub fits_last : (h : Held) → length h.line ≡ line_kept → length h.ledger ≡ ledger_most → length h.table ≡ table_most
-    → h.state.line ≤ line_kept → h.state.ledger ≤ ledger_most → fits h ≡ leb h.state.table table_most
-unfolding fits
-fits_last h a b c d e =
-    rw (
-      eq-eqb (length h.line) line_kept a,
-      eq-eqb (length h.ledger) ledger_most b,
-      eq-eqb (length h.table) table_most c,
-      le-leb h.state.line line_kept d,
-      le-leb h.state.ledger ledger_most e,
-    )
-
 pub to_fits : (h : Held) → Fit h → fits h ≡ true
-to_fits h f = fits_last h f.line f.ledger f.table f.gathered f.used ∙ le-leb h.state.table table_most f.listed
+unfolding fits
+to_fits h f =
+    rw (
+      eq-eqb (length h.line) line_kept f.line,
+      eq-eqb (length h.ledger) ledger_most f.ledger,
+      eq-eqb (length h.table) table_most f.table,
+      le-leb h.state.line line_kept f.gathered,
+      le-leb h.state.ledger ledger_most f.used,
+      le-leb h.state.table table_most f.listed,
+    )
 
 -- ---- a line's end
 
 -- a line that is too long is no frame
-long : (l : List ℕ) → line_most < length l → frame_kind l ≡ NoFrame
+long : (l : List ℕ) → line_most < length l → frame_kind l ≡ None
 unfolding frame_kind
 long l h = rw (lt-leb (length l) 640 h)
 
@@ -83,8 +80,8 @@ serve_kept l d = go (leb (length l) line_most) refl
     go false e =
         let h = leb-false (length l) 640 e in
         let n : length (take 641 l) ≡ 641 = length-take-le 641 l (omega arith) in
-        let a : frame_kind (take 641 l) ≡ NoFrame = long (take 641 l) (omega arith) in
-        let b : frame_kind l ≡ NoFrame = long l h in
+        let a : frame_kind (take 641 l) ≡ None = long (take 641 l) (omega arith) in
+        let b : frame_kind l ≡ None = long l h in
         rw (a, b)
 
 pub take_laid : (xs l : List ℕ) → length xs ≤ length l → take (length xs) (laid xs l) ≡ xs

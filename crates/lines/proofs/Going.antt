@@ -103,10 +103,12 @@ module _ (h₀ : Held) (out₀ input : List ℕ) (h : Held) (filled at : ℕ) (o
       let m : leaves (fed h (take filled out) (drop at input)) input out₀ ≡ left h at filled out = rw (t, l, o) in
       sym (b ∙ m)
 
-  pub going_all : length input ≤ at → left h at filled out ≡ feed h₀ input out₀
+  pub going_all : length input ≤ at → left h (length input) filled out ≡ feed h₀ input out₀
   going_all k =
       let d : drop at input ≡ [] = drop_of_length-le input k in
-      stopped (rw d (feed_none (length out₀) h (take filled out)))
+      let w = g.within in
+      let e : length input ≡ at = omega arith in
+      rw e (stopped (rw d (feed_none (length out₀) h (take filled out))))
 
   pub going_full : length out < filled + answer_line → left h at filled out ≡ feed h₀ input out₀
   going_full k =
@@ -123,23 +125,22 @@ module _ (h : Held) (out : List ℕ) {s : State} {n m : ℕ} (same : s ≡ h.sta
       let z : length input - length input ≡ 0 = omega arith in
       rw (same, taken, filled, z, take-nil (length out))
 
-  pub unfed : (input : List ℕ) → fits h ≡ false
-      → (left (held s h.line h.ledger h.table) n m out ≡ feed h input out) × ((n ≤ length input) × (m ≤ length out))
+  pub unfed : (input : List ℕ) → fits h ≡ false → left (held s h.line h.ledger h.table) n m out ≡ feed h input out
   unfolding feed
-  unfed input e = (rw e (untouched input), (omega arith, omega arith))
+  unfed input e = rw e (untouched input)
 
   unfinished : (fits h && (not (eqb h.state.line 0) && leb answer_line (length out))) ≡ false
-      → (left (held s h.line h.ledger h.table) n m out ≡ finish h out) × (m ≤ length out)
+      → left (held s h.line h.ledger h.table) n m out ≡ finish h out
   unfolding finish
-  unfinished e = (rw e (untouched []), omega arith)
+  unfinished e = rw e (untouched [])
 
-  pub unfitting : fits h ≡ false → (left (held s h.line h.ledger h.table) n m out ≡ finish h out) × (m ≤ length out)
+  pub unfitting : fits h ≡ false → left (held s h.line h.ledger h.table) n m out ≡ finish h out
   unfitting e = unfinished (rw e)
 
-  pub unbegun : h.state.line ≡ 0 → (left (held s h.line h.ledger h.table) n m out ≡ finish h out) × (m ≤ length out)
+  pub unbegun : h.state.line ≡ 0 → left (held s h.line h.ledger h.table) n m out ≡ finish h out
   unbegun e = unfinished (rw (eq-eqb h.state.line 0 e) (and-false (fits h)))
 
-  pub roomless : length out < answer_line → (left (held s h.line h.ledger h.table) n m out ≡ finish h out) × (m ≤ length out)
+  pub roomless : length out < answer_line → left (held s h.line h.ledger h.table) n m out ≡ finish h out
   roomless e = unfinished (simp (lt-leb 189 (length out) e, and-false))
 
 pub finished : (h : Held) (out : List ℕ) → fits h ≡ true → (h.state.line ≡ 0 → ⊥) → answer_line ≤ length out → {g : Held} {n : ℕ} {x : List ℕ}

@@ -5,42 +5,26 @@ use mathlib.Core.Path.{◌≡◌, refl}
 use mathlib.Core.Bool.{Bool, true, false, cond}
 use mathlib.Core.List.{List}
 use lib.Dec.{leb}
-use lib.ListN.{length, length-append, length-take}
+use lib.ListN.{length}
 use Rattle.octets.specs.Parts.{blank}
-use Rattle.octets.proofs.Numbers.{length_digits}
 use Rattle.octets.proofs.Parts.{length_put, length_blank}
-use Rattle.desk.specs.declared.answer.Answer.{Answer}
 use Rattle.desk.specs.declared.answer.Decided.{Decided}
-use Rattle.desk.specs.declared.answer.Swept.{Swept}
 use Rattle.desk.specs.Checks.{Verdict, accepted, stopped, first}
 use Rattle.desk.specs.Requests.{DecideRequest}
 use Rattle.desk.specs.Outcome.{Outcome, concludes}
 use Rattle.desk.specs.Decide.{decide, decide_leaves, decide_checks, decide_at, consent_at, decline_at, reference_place}
+use Rattle.wire.proofs.Answers.{answer_length, swept_length, decided_most}
+use Rattle.std.proofs.Common.{Option, None, Some}
 use Rattle.wire.specs.declared.kind.Kind.{Kind}
-use Rattle.wire.specs.declared.kind.Kind.TheVariants.{Start, Push, Decide, Token, Resource, Sweep, Client, NoFrame}
+use Rattle.wire.specs.declared.kind.Kind.TheVariants.{Start, Push, Decide, Token, Resource, Sweep, Client}
 use Rattle.wire.specs.Answers.{answer_most}
 use Rattle.frames.specs.Limits.{answer_line, table_most}
 use Rattle.texts.specs.Hex.{between, decoded}
 use Rattle.frames.specs.Line.{line_of}
 use Rattle.frames.specs.Line.{frame_kind}
 use Rattle.wire.specs.Calls.{time, slot_count, decide_request}
-use Rattle.wire.specs.Answers.{swept_bytes, answer_bytes, decided_bytes}
 use Rattle.frames.specs.Serve.{Desk, Written, pushed, decided, redeemed, read, swept, started, appended, serve, serve_line}
 use Rattle.frames.proofs.Lines.{length_line}
-
--- ---- the bytes of each kind of answer
-
-answer_length : (a : Answer) → length (answer_bytes a) ≡ 29
-unfolding answer_bytes
-answer_length a = simp (length-append, length_digits) (omega arith)
-
-swept_length : (s : Swept) → length (swept_bytes s) ≡ 7
-unfolding swept_bytes
-swept_length s = simp (length-append, length_digits) (omega arith)
-
-decided_most : (d : Decided) (out : List ℕ) → length out ≤ 64 → length (decided_bytes d out) ≤ answer_most
-unfolding decided_bytes
-decided_most d out h = let n = answer_length d.answer in simp (length-append, length-take) (omega arith)
 
 -- ---- decide keeps the output's length
 
@@ -65,17 +49,17 @@ by_test : (b : Bool) (v w : Written) → length v.answer ≤ answer_most → len
 by_test true v w f g = f
 by_test false v w f g = g
 
-serve_most : (k : Kind) (f : List ℕ) (d : Desk) → length (serve k f d).answer ≤ answer_most
+serve_most : (k : Option Kind) (f : List ℕ) (d : Desk) → length (serve k f d).answer ≤ answer_most
 unfolding pushed decided redeemed read swept started appended
-serve_most Start f d = by_test (between 1 200 (slot_count f)) _ _ (omega arith) (omega arith)
-serve_most Push f d = rw (answer_length _) (omega arith)
-serve_most Decide f d =
+serve_most (Some Start) f d = by_test (between 1 200 (slot_count f)) _ _ (omega arith) (omega arith)
+serve_most (Some Push) f d = rw (answer_length _) (omega arith)
+serve_most (Some Decide) f d =
     decided_most _ _ (let e = decide_output d.ledger (time f) (decide_request f) (blank 64) in let n = length_blank 64 in omega arith)
-serve_most Token f d = rw (answer_length _) (omega arith)
-serve_most Resource f d = rw (answer_length _) (omega arith)
-serve_most Sweep f d = rw (swept_length _) (omega arith)
-serve_most Client f d = by_test (leb (length d.table + 64) table_most) _ _ (omega arith) (omega arith)
-serve_most NoFrame f d = omega arith
+serve_most (Some Token) f d = rw (answer_length _) (omega arith)
+serve_most (Some Resource) f d = rw (answer_length _) (omega arith)
+serve_most (Some Sweep) f d = rw (swept_length _) (omega arith)
+serve_most (Some Client) f d = by_test (leb (length d.table + 64) table_most) _ _ (omega arith) (omega arith)
+serve_most None f d = omega arith
 
 pub answer_most_lem : (l : List ℕ) (d : Desk) → length (serve_line l d).answer ≤ answer_most
 unfolding serve_line

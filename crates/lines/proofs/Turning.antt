@@ -6,12 +6,13 @@ use mathlib.Core.Bool.{true}
 use mathlib.Core.List.{List, [], ◌++◌, append_assoc}
 use lib.ListN.{length, take, drop, set, length-append, take-append-drop}
 use lib.Seq.{take_at, drop_at, drop-drop, take-nil, length-take-le}
-use borrow.Author.Tests.{le-leb, eq-eqb, ne_eqb}
+use borrow.Author.Tests.{eq-eqb, ne_eqb}
 use Rattle.octets.specs.Parts.{laid, put, part, splice}
 use Rattle.octets.proofs.Parts.{put_splice, put_rest, part_length}
-use Rattle.frames.specs.Limits.{line_kept, ledger_most, table_most, answer_line}
+use Rattle.frames.specs.Limits.{line_kept, answer_line}
 use Rattle.frames.specs.Line.{line_end, line_of}
-use Rattle.frames.specs.Hold.{place, Said, said, say, fitting, answer}
+use Rattle.frames.specs.Hold.{place, Said, said, say, answer}
+use Rattle.frames.proofs.Fitting.{fitting_of, answer_fits}
 use Rattle.lines.specs.Turn.{Held, held, lengths, line_in, gathered, ending, ended, turn, says, fits}
 use Rattle.lines.specs.Feed.{Turned, turned, putting}
 use Rattle.lines.proofs.Feeding.{Fit, of_fits, gathered_full, gathered_more, turn_end, turn_more, says_end, says_more}
@@ -37,21 +38,11 @@ put_none l a = rw (take-nil (length (drop a l))) (take-append-drop a l)
 
 -- ---- a line's end
 
-fitting_of : (h : Held) (out : List ℕ) → Fit h → answer_line ≤ length out → fitting h.state.ledger h.state.table h.ledger h.table out ≡ true
-unfolding fitting
-fitting_of h out f r =
-    rw (
-      le-leb h.state.ledger ledger_most f.used,
-      le-leb h.state.table table_most f.listed,
-      eq-eqb (length h.ledger) ledger_most f.ledger,
-      eq-eqb (length h.table) table_most f.table,
-      le-leb answer_line (length out) r,
-    )
-
 answered : (h : Held) (out : List ℕ) → Fit h → answer_line ≤ length out
     → answer (line_in h) h.state.ledger h.state.table h.ledger h.table out ≡ say (place (ending h) h.ledger h.table) out
-unfolding answer
-answered h out f r = rw (fitting_of h out f r)
+answered h out f r =
+    answer_fits h.state.ledger h.state.table h.ledger h.table out (line_in h)
+    (fitting_of h.state.ledger h.state.table h.ledger h.table out f.used f.listed f.ledger f.table r)
 
 pub told : (h : Held) (filled : ℕ) (out : List ℕ) → fits h ≡ true → filled + answer_line ≤ length out → {u v k : ℕ} {ledger table y : List ℕ}
     → said u v k ledger table y ≡ answer (line_in h) h.state.ledger h.state.table h.ledger h.table (part out filled (length out - filled))

@@ -4,4 +4,6 @@ pub mod Lists
 pub mod Numbers
 pub mod Parts
 pub mod Tabulate
+pub mod Chunks
+pub mod Ranges
 pub mod Bytes

@@ -1,61 +1,27 @@
 -- Laws of the questions on a list: what a loop keeps, and what the answer says of the elements.
-use Prim.Native.Nat.{ℕ, zero, suc, ◌+◌, ◌<◌, ◌≤◌}
+use Prim.Native.Nat.{ℕ, zero, suc, ◌+◌, ◌<◌}
 use native.Mathlib.Numerals.{add-one}
 use native.Mathlib.Omega.{arith}
 use mathlib.Core.Path.{◌≡◌, refl, sym, ap, ◌∙◌}
 use mathlib.Core.Bool.{Bool, true, false, not, ◌&&◌, ◌||◌, cond, false≢true, true≢false}
 use mathlib.Core.List.{List, [], ◌∷◌, ◌++◌}
-use lib.ListN.{length, get_or, drop, set, drop_of_length-le}
+use lib.ListN.{length, get_or, drop, set}
 use lib.Seq.{drop-cons}
 use borrow.Author.Tests.{not-true}
 use Rattle.octets.specs.Lists.{bit, every, some, count, place, apart}
-use Rattle.octets.proofs.Tests.{both, swap_and, false_of}
-
--- ---- a loop over the elements from k on
-
-module _ {A : Type 0} (q : A → Bool) (l : List A) (d : A) (k : ℕ) where
-  pub every_hit : k < length l → q (get_or l k d) ≡ false → every q (drop k l) ≡ false
-  every_hit h e = rw (drop-cons l k d h, e)
-
-  pub every_miss : k < length l → q (get_or l k d) ≡ true → every q (drop k l) ≡ every q (drop (k + 1) l)
-  every_miss h e = rw (add-one, drop-cons l k d h, e)
-
-  pub some_hit : k < length l → q (get_or l k d) ≡ true → some q (drop k l) ≡ true
-  some_hit h e = rw (drop-cons l k d h, e)
-
-  pub some_miss : k < length l → q (get_or l k d) ≡ false → some q (drop k l) ≡ some q (drop (k + 1) l)
-  some_miss h e = rw (add-one, drop-cons l k d h, e)
-
-  pub place_hit : k < length l → q (get_or l k d) ≡ true → place q (drop k l) ≡ 0
-  place_hit h e = rw (drop-cons l k d h, e)
-
-  pub place_miss : k < length l → q (get_or l k d) ≡ false → place q (drop k l) ≡ suc (place q (drop (k + 1) l))
-  place_miss h e = rw (add-one, drop-cons l k d h, e)
-
-  pub count_more : k < length l → count q (drop k l) ≡ bit (q (get_or l k d)) + count q (drop (k + 1) l)
-  count_more h = rw (add-one, drop-cons l k d h)
-
-module _ {A : Type 0} (q : A → Bool) (l : List A) (k : ℕ) where
-  pub every_end : length l ≤ k → every q (drop k l) ≡ true
-  every_end h = rw (drop_of_length-le l h)
-
-  pub some_end : length l ≤ k → some q (drop k l) ≡ false
-  some_end h = rw (drop_of_length-le l h)
-
-  pub count_end : length l ≤ k → count q (drop k l) ≡ 0
-  count_end h = rw (drop_of_length-le l h)
+use Rattle.std.proofs.lemmas.List.{get_or_default}
+use Rattle.std.proofs.lemmas.List.Sums.{sum_by-cons}
+use Rattle.std.proofs.Common.{ltb, lt-ltb, le-ltb}
+use Rattle.std.specs.Prelude.{All, Any, IsTrue, ◌↔◌, position, Some, None}
+use Rattle.std.specs.List.{position_or_len, count_by}
+use mathlib.Core.Logic.{⊎_elim}
+use Rattle.octets.proofs.Tests.{both, swap_and, false_of, lt_or_le}
 
 -- ---- a loop over the pairs of elements
 
 module _ {A : Type 0} (clash : A → A → Bool) (l : List A) (d : A) (i : ℕ) where
-  pub apart_hit : i < length l → some (clash (get_or l i d)) (drop (i + 1) l) ≡ true → apart clash (drop i l) ≡ false
-  apart_hit h e = let f = rw add-one at e in rw (drop-cons l i d h, f)
-
   pub apart_miss : i < length l → some (clash (get_or l i d)) (drop (i + 1) l) ≡ false → apart clash (drop i l) ≡ apart clash (drop (i + 1) l)
   apart_miss h e = let f = rw add-one at e in rw (add-one, drop-cons l i d h, f)
-
-pub apart_end : {A : Type 0} (clash : A → A → Bool) (l : List A) (i : ℕ) → length l ≤ i → apart clash (drop i l) ≡ true
-apart_end clash l i h = rw (drop_of_length-le l h)
 
 -- ---- what the answers say
 
@@ -168,3 +134,36 @@ module _ {A : Type 0} (clash : A → A → Bool) (d : A) where
 
   pub apart_of : (l : List A) → ((x : A) → clash x d ≡ false) → ((i j : ℕ) → i < j → j < length l → clash (get_or l i d) (get_or l j d) ≡ false) → apart clash l ≡ true
   apart_of l z = apart_of_inside l
+
+-- ---- what std's all, any, count and position answer, in the words of the questions
+
+pub every_all : {A : Type 0} (q : A → Bool) (l : List A) (b : Bool) → IsTrue b ↔ All (λ x. q x ≡ true) l → b ≡ every q l
+every_all q [] b h = h.1 (λ k d i. absurd (omega arith))
+every_all q (x ∷ xs) true h = sym (every_of q (x ∷ xs) x (λ k i. h.0 refl k x i))
+every_all q (x ∷ xs) false h = sym (false_of _ (λ e. false≢true (h.1 (λ k d i. every_at q (x ∷ xs) d e k i))))
+
+pub some_any : {A : Type 0} (q : A → Bool) (l : List A) (b : Bool) → IsTrue b ↔ Any (λ x. q x ≡ true) l → b ≡ some q l
+some_any q l true h = let (k, x, i, e, p) = h.0 refl in sym (some_inside q x l k i (ap q e ∙ p))
+some_any q [] false h = refl
+some_any q (x ∷ xs) false h =
+    sym (none_of_inside q x (x ∷ xs) (λ j i. false_of _ (λ e. false≢true (h.1 (j, get_or (x ∷ xs) j x, i, get_or_default (x ∷ xs) j _ x i, e)))))
+
+pub count_is : {A : Type 0} (q : A → Bool) (l : List A) → count_by q l ≡ count q l
+count_is q [] = refl
+count_is q (x ∷ xs) =
+    sum_by-cons (λ y. cond (q y) 1 0) x xs
+    ∙ (elim (q x) as (λ (b : Bool). cond b 1 0 + count_by q xs ≡ bit b + count q xs) [ true ↦ omega (arith, count_is q xs) | false ↦ omega (arith, count_is q xs) ])
+
+module _ {A : Type 0} (q : A → Bool) where
+  position_place : (l : List A) → position_or_len q l ≡ place q l
+  position_place [] = refl
+  position_place (x ∷ xs) =
+      elim (q x) as (λ (b : Bool). cond (not b) (1 + position_or_len q xs) 0 ≡ cond b 0 (suc (place q xs)))
+      [ true ↦ refl | false ↦ omega (arith, position_place xs) ]
+
+  some_place : (l : List A) (b : Bool) → some q l ≡ b → ltb (place q l) (length l) ≡ b
+  some_place l true e = lt-ltb _ _ (place_lt q l e)
+  some_place l false e = le-ltb _ _ (⊎_elim (λ h. absurd (false≢true (sym e ∙ place_some q l h))) (λ h. h) (lt_or_le (place q l) (length l)))
+
+  pub position_is : (l : List A) → position q l ≡ cond (some q l) (Some (place q l)) None
+  position_is l = rw (position_place l, some_place l (some q l) refl)

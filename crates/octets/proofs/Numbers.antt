@@ -4,11 +4,14 @@ use mathlib.Core.List.{List, [], ◌∷◌, ◌++◌}
 use Prim.Native.Nat.{ℕ, zero, suc, ◌+◌, ◌*◌, ◌/◌, ◌%◌, ◌≤◌, ◌<◌, ◌^◌}
 use native.Mathlib.Numerals.{add-one}
 use native.Mathlib.Omega.{arith}
-use lib.ListN.{length, get_or, take, drop, drop_of_length-le, length-append}
+use lib.ListN.{length, get_or, take, drop, drop_of_length-le, length-append, length-take}
 use lib.Dec.{lit<}
 use lib.Pow.{field, mod-mod-pow}
 use lib.Seq.{drop-cons, take-suc, take-add, take_all}
 use native.Mathlib.Nat.{add-mul, mul_assoc}
+use Rattle.std.specs.Int.{Width, w16, w32, w64, from_be_bytes, to_be_bytes}
+use Rattle.std.specs.Array.{IsFirstChunk}
+use Rattle.std.proofs.lemmas.Nat.{be_bytes_2, be_bytes_4, be_bytes_8}
 use Rattle.octets.specs.Parts.{part}
 use Rattle.octets.proofs.Parts.{part_length}
 use Rattle.octets.specs.Numbers.{num, num_from, digits}
@@ -125,6 +128,58 @@ num_split s n m h =
 pub num_short : (s : List ℕ) (n : ℕ) → length s ≤ n → num s ≡ num (take n s)
 num_short s n h = ap num (sym (take_all n s h))
 
-pub num_none : (s : List ℕ) → num (take 0 s) ≡ 0
+num_none : (s : List ℕ) → num (take 0 s) ≡ 0
 unfolding num num_from
 num_none s = refl
+
+-- ---- the library's numbers: read from as many bytes as they have, and written
+
+read16 : (s : List ℕ) → length s ≡ 2 → from_be_bytes w16 s ≡ num s
+read16 s e = omega (arith, num_more s 1 (omega arith), num_more s 0 (omega arith), num_none s, num_short s 2 (omega arith))
+
+read32 : (s : List ℕ) → length s ≡ 4 → from_be_bytes w32 s ≡ num s
+read32 s e =
+    omega (arith, num_more s 3 (omega arith), num_more s 2 (omega arith), num_more s 1 (omega arith), num_more s 0 (omega arith), num_none s, num_short s 4 (omega arith))
+
+read64 : (s : List ℕ) → length s ≡ 8 → from_be_bytes w64 s ≡ num s
+read64 s e =
+    omega (
+      arith,
+      num_more s 7 (omega arith),
+      num_more s 6 (omega arith),
+      num_more s 5 (omega arith),
+      num_more s 4 (omega arith),
+      num_more s 3 (omega arith),
+      num_more s 2 (omega arith),
+      num_more s 1 (omega arith),
+      num_more s 0 (omega arith),
+      num_none s,
+      num_short s 8 (omega arith),
+    )
+
+module _ (w : Width) (n : ℕ) (reads : (xs : List ℕ) → length xs ≡ n → from_be_bytes w xs ≡ num xs) where
+  front : (s xs : List ℕ) → IsFirstChunk s xs n → from_be_bytes w xs ≡ num (take n s)
+  front s xs f =
+      let l : length xs ≡ n = rw f.same (simp length-take (omega (arith, f.enough))) in
+      reads xs l ∙ ap num f.same
+
+  digits_read : (v : ℕ) → v < 256 ^ n → v ≡ from_be_bytes w (digits n v)
+  digits_read v h = sym (reads (digits n v) (length_digits n v) ∙ num_digits n v h)
+
+pub front16 : (s xs : List ℕ) → IsFirstChunk s xs 2 → from_be_bytes w16 xs ≡ num (take 2 s)
+front16 = front w16 2 read16
+
+pub front32 : (s xs : List ℕ) → IsFirstChunk s xs 4 → from_be_bytes w32 xs ≡ num (take 4 s)
+front32 = front w32 4 read32
+
+pub front64 : (s xs : List ℕ) → IsFirstChunk s xs 8 → from_be_bytes w64 xs ≡ num (take 8 s)
+front64 = front w64 8 read64
+
+pub digits16 : (v : ℕ) → v < 2 ^ 16 → to_be_bytes w16 v ≡ digits 2 v
+digits16 v h = be_bytes_2 (digits 2 v) v (length_digits 2 v) (octets_digits 2 v) (digits_read w16 2 read16 v h)
+
+pub digits32 : (v : ℕ) → v < 2 ^ 32 → to_be_bytes w32 v ≡ digits 4 v
+digits32 v h = be_bytes_4 (digits 4 v) v (length_digits 4 v) (octets_digits 4 v) (digits_read w32 4 read32 v h)
+
+pub digits64 : (v : ℕ) → v < 2 ^ 64 → to_be_bytes w64 v ≡ digits 8 v
+digits64 v h = be_bytes_8 (digits 8 v) v (length_digits 8 v) (octets_digits 8 v) (digits_read w64 8 read64 v h)

@@ -1,57 +1,37 @@
 -- Laws of parts, splices, zeros and equality.
 use mathlib.Core.Path.{◌≡◌, refl, sym, ap, ◌∙◌}
 use mathlib.Core.List.{List, [], ◌∷◌, ◌++◌, append_assoc, append-nil}
-use mathlib.Core.Bool.{Bool, true, false, not, ◌&&◌, false≢true, true≢false, and-false}
+use mathlib.Core.Bool.{Bool, true, false, not, ◌&&◌, false≢true, true≢false, and-true, and_assoc}
 use mathlib.Core.Logic.{◌≢◌}
 use Prim.Native.Nat.{ℕ, zero, suc, ◌+◌, ◌-◌, ◌≤◌, ◌<◌, min}
 use native.Mathlib.Nat.{min-eq_left, min-eq_right}
-use native.Mathlib.Numerals.{add-one}
 use native.Mathlib.Omega.{arith}
 use lib.Dec.{eqb, leb}
-use lib.ListN.{length, get_or, take, drop, set, replicate, drop_of_length-le, length-append, length-take, length-drop, length-replicate, take-append-drop, get_or-append}
-use lib.Seq.{drop-cons, take_all, take_at, drop_at, drop-append-le, take-append-le, drop-append-add, drop-drop, take-suc, take-suc-set, drop-nil, take-nil, drop-set-lt, get_or-take, get_or-drop, get_or-append-add}
-use borrow.Author.Tests.{eq-eqb, ne_eqb, eqb-true, leb-true, leb-false, not-true}
+use lib.Pointwise.{pointwise}
+use Rattle.std.specs.Prelude.{nat_eq}
+use lib.ListN.{length, get_or, take, drop, replicate, drop_of_length-le, length-append, length-take, length-drop, length-replicate, take-append-drop, get_or-append}
+use lib.Seq.{take_all, take_at, drop_at, drop-append-le, take-append-le, drop-append-add, drop-drop, drop-nil, get_or-take, get_or-drop, get_or-append-add}
+use borrow.Author.Tests.{eq-eqb, eqb-true, leb-true, leb-false, not-true}
 use Rattle.octets.proofs.Tests.{both, false_of}
 use Rattle.octets.specs.Parts.{part, splice, laid, put, blank, zeros, same}
 
--- ---- loops that look at each byte
+-- ---- what looks at each byte
 
-module _ (s : List ℕ) (i : ℕ) where
-  zeros_at : i < length s → zeros (drop i s) ≡ (eqb (get_or s i 0) 0 && zeros (drop (i + 1) s))
-  unfolding zeros
-  zeros_at h = rw (add-one, drop-cons s i 0)
+-- one byte more
+pub zeros_last : (xs : List ℕ) (x : ℕ) → zeros (xs ++ (x ∷ [])) ≡ (zeros xs && eqb x 0)
+unfolding zeros
+zeros_last [] x = and-true (eqb x 0)
+zeros_last (y ∷ ys) x = rw (zeros_last ys x) (sym (and_assoc (eqb y 0) (zeros ys) (eqb x 0)))
 
-  pub zeros_more : (clean : Bool) → i < length s → (clean && zeros (drop i s)) ≡ ((clean && eqb (get_or s i 0) 0) && zeros (drop (i + 1) s))
-  zeros_more true h = zeros_at h
-  zeros_more false h = refl
-
-  pub zeros_end : length s ≤ i → zeros (drop i s) ≡ true
-  unfolding zeros
-  zeros_end h = rw (drop_of_length-le s h)
-
-module _ (s t : List ℕ) (i : ℕ) where
-  same_at : i < length s → i < length t → same (drop i s) (drop i t) ≡ (eqb (get_or s i 0) (get_or t i 0) && same (drop (i + 1) s) (drop (i + 1) t))
-  unfolding same
-  same_at h k = rw (add-one, drop-cons s i 0, drop-cons t i 0)
-
-  pub same_hit : i < length s → length s ≡ length t → (get_or s i 0 ≡ get_or t i 0 → ⊥) → same (drop i s) (drop i t) ≡ false
-  same_hit h k n = same_at h (omega arith) ∙ rw (ne_eqb (get_or s i 0) (get_or t i 0) n)
-
-  pub same_miss : i < length s → length s ≡ length t → get_or s i 0 ≡ get_or t i 0 → same (drop i s) (drop i t) ≡ same (drop (i + 1) s) (drop (i + 1) t)
-  same_miss h k e = same_at h (omega arith) ∙ rw (eq-eqb (get_or s i 0) (get_or t i 0) e)
-
-  pub same_end : length s ≤ i → length s ≡ length t → same (drop i s) (drop i t) ≡ true
-  unfolding same
-  same_end h k = let l : length t ≤ i = omega arith in rw (drop_of_length-le s h, drop_of_length-le t l)
+-- the library's equality
+pub pointwise_same : (s t : List ℕ) → pointwise nat_eq s t ≡ same s t
+unfolding same
+pointwise_same [] [] = refl
+pointwise_same [] (y ∷ ys) = refl
+pointwise_same (x ∷ xs) [] = refl
+pointwise_same (x ∷ xs) (y ∷ ys) = rw (pointwise_same xs ys)
 
 -- ---- what the tests say
-
-pub same_length : (s t : List ℕ) → (length s ≡ length t → ⊥) → same s t ≡ false
-unfolding same
-same_length [] [] h = absurd (h refl)
-same_length [] (y ∷ ys) h = refl
-same_length (x ∷ xs) [] h = refl
-same_length (x ∷ xs) (y ∷ ys) h = simp (same_length xs ys (λ e. h (ap suc e)), and-false)
 
 pub same_eq : (s t : List ℕ) → same s t ≡ true → s ≡ t
 unfolding same
@@ -185,24 +165,12 @@ laid_all xs s e =
     let k : length xs ≤ length s = omega arith in
     rw (take_all (length s) xs k, drop_of_length-le s h) (append-nil xs)
 
--- ---- loops that write from the front
-
--- the first i elements are those of xs, the rest as they were
-pub front_more : (xs d e : List ℕ) (i v : ℕ) → i < length e → i < length xs → take i e ≡ take i xs → drop i e ≡ drop i d → v ≡ get_or xs i 0
-    → (take (i + 1) (set e i v) ≡ take (i + 1) xs) × (drop (i + 1) (set e i v) ≡ drop (i + 1) d)
-front_more xs d e i v h k f b w = (
-  rw (add-one, take-suc-set e i v h, take-suc xs i 0 k, w) (ap (λ (t : List ℕ). t ++ (get_or xs i 0 ∷ [])) f),
-  rw (add-one, drop-set-lt (suc i) e i v (omega arith)) (tail i e d b),
-)
-  where
-    tail : (i : ℕ) (e d : List ℕ) → drop i e ≡ drop i d → drop (suc i) e ≡ drop (suc i) d
-    tail i e d b = let s : suc i ≡ i + 1 = omega arith in rw s (sym (drop-drop 1 i e) ∙ ap (drop 1) b ∙ drop-drop 1 i d)
+-- ---- what is written from the front
 
 -- all is written that there is room for
-pub front_laid : (xs d e : List ℕ) (n : ℕ) → n ≡ min (length xs) (length d) → take n e ≡ take n xs → drop n e ≡ drop n d → e ≡ laid xs d
+pub laid_front : (xs d : List ℕ) (n : ℕ) → n ≡ min (length xs) (length d) → take n xs ++ drop n d ≡ laid xs d
 unfolding laid
-front_laid xs d e n h f b =
-    sym (take-append-drop n e) ∙ rw (f, b) (ends (leb (length xs) (length d)) refl)
+laid_front xs d n h = ends (leb (length xs) (length d)) refl
   where
     ends : (t : Bool) → leb (length xs) (length d) ≡ t → take n xs ++ drop n d ≡ take (length d) xs ++ drop (length xs) d
     ends true p =
@@ -215,18 +183,6 @@ front_laid xs d e n h f b =
         let z : length d ≤ length xs = omega arith in
         let w : length d ≤ length d = omega arith in
         rw (k, drop_of_length-le d z, drop_of_length-le d w)
-
--- the first i bytes are zeros
-pub blank_more : (e : List ℕ) (i : ℕ) → i < length e → take i e ≡ blank i → take (i + 1) (set e i 0) ≡ blank (i + 1)
-unfolding blank
-blank_more e i h f = rw (add-one, take-suc-set e i 0 h, f) (last i)
-  where
-    last : (i : ℕ) → ◌++◌ {A = ℕ} (replicate i 0) (0 ∷ []) ≡ 0 ∷ replicate i 0
-    last zero = refl
-    last (suc i) = ap (λ (t : List ℕ). 0 ∷ t) (last i)
-
-pub blank_all : (e : List ℕ) (i n : ℕ) → length e ≡ n → i ≡ n → take i e ≡ blank i → e ≡ blank n
-blank_all e i n l h f = sym (take_all i e (omega arith)) ∙ f ∙ ap blank h
 
 -- ---- what is put into a list
 
@@ -302,26 +258,7 @@ module _ (l : List ℕ) (a : ℕ) (xs : List ℕ) (i : ℕ) (inside : i < length
       let e : a + (i - a) ≡ i = omega arith in
       put_from (omega arith) ∙ laid_past xs (drop a l) (i - a) (omega arith) m ∙ get_or-drop a l (i - a) 0 ∙ ap (λ (j : ℕ). get_or l j 0) e
 
--- ---- the parts that `from`, `cut` and `put` lend
-
-pub drop_all : (s : List ℕ) (a : ℕ) → a ≤ length s → part s a (length s - a) ≡ drop a s
-drop_all s a h = take_all (length s - a) (drop a s) (simp length-drop (omega arith))
-
-pub drop_none : (s : List ℕ) (a : ℕ) → length s ≤ a → part s (length s) (length s - length s) ≡ drop a s
-drop_none s a h =
-    let w : length s ≤ length s = omega arith in
-    rw (drop_of_length-le s h, drop_of_length-le s w) (take-nil (length s - length s))
-
-pub part_none : (s : List ℕ) (a n : ℕ) → length s ≤ a → part s (length s) (length s - length s) ≡ part s a n
-part_none s a n h =
-    let w : length s ≤ length s = omega arith in
-    rw (drop_of_length-le s h, drop_of_length-le s w) (take-nil (length s - length s) ∙ sym (take-nil n))
-
-pub part_rest : (s : List ℕ) (a n : ℕ) → length s - a ≤ n → part s a (length s - a) ≡ part s a n
-part_rest s a n h =
-    let p : length (drop a s) ≤ length s - a = simp length-drop (omega arith) in
-    let q : length (drop a s) ≤ n = simp length-drop (omega arith) in
-    take_all (length s - a) (drop a s) p ∙ sym (take_all n (drop a s) q)
+-- ---- the part that `put` lends
 
 pub put_rest : (l : List ℕ) (a : ℕ) (xs y : List ℕ) → y ≡ laid xs (part l a (length l - a)) → splice l a (length l - a) y ≡ put l a xs
 unfolding put

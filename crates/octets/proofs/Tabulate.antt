@@ -72,8 +72,3 @@ module _ {ℓ} {A : Type ℓ} where
         sized = simp length-set h.sized;
         front = grow_tabulate f l n v h.front (omega arith) e;
       }
-
-  pub filled_all : (f : ℕ → A) (size : ℕ) (l : List A) (n : ℕ) → Filled f size l n → size ≤ n → l ≡ tabulate f size
-  filled_all f size l n h k =
-      let e : n ≡ size = omega arith in
-      sym (take_all n l (omega arith)) ∙ h.front ∙ ap (tabulate f) e

@@ -1,5 +1,9 @@
 -- Questions on a list: do all pass a test, do some, how many, where is the first, do no two clash.
-use Rattle.std.specs.Prelude.{ℕ, zero, suc, ◌+◌, Bool, true, false, not, ◌&&◌, ◌||◌, cond, List, [], ◌∷◌, ◌++◌}
+use Rattle.std.specs.Prelude.{ℕ, zero, suc, ◌+◌, ◌≡◌, Bool, true, false, not, ◌&&◌, ◌||◌, cond, List, [], ◌∷◌, ◌++◌}
+
+-- a test that is passed on answers what q does, whatever post says that it may answer
+abbrev pub Computes {ℓ} : {A : Type ℓ} → (A → Bool → Type 0) → (A → Bool) → Type ℓ
+Computes {A = A} post q = (x : A) (b : Bool) → post x b → b ≡ q x
 
 -- a test's answer as a number
 abbrev pub bit : Bool → ℕ

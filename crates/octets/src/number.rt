@@ -1,115 +1,102 @@
 // Big-endian numbers of 2, 4 and 8 bytes, read from the front of a part and written to it.
-ghost use Rattle.std.specs.Prelude.{◌≡◌, ◌*◌, ◌+◌, ◌≤◌, ◌<◌, ◌^◌, length, take};
+ghost use Rattle.std.specs.Prelude.{◌≡◌, ℕ, ◌≤◌, ◌<◌, ◌^◌, length, take};
 ghost use Rattle.octets.specs.Numbers.{num, digits};
 ghost use Rattle.octets.specs.Parts.{laid};
 
 use super::part::copy;
+use std::convert::AsSlice;
+
+// A number of a fixed width. Its bytes are the highest first.
+pub trait Number: Copy {
+    // The array of its bytes.
+    type Bytes: Copy + AsSlice<u8>;
+
+    // How many bytes it has.
+    ghost width: { ℕ };
+
+    ghost value: { Self → ℕ };
+
+    // The number of the first bytes of s: of all, where they are fewer than it has.
+    fn read(s: &[u8]) -> Self
+        ensures { value result ≡ num (take width s.now) };
+
+    fn bytes(self) -> Self::Bytes
+        ensures { Self.Bytes.items result ≡ digits width (value self) };
+
+    // Lays the bytes over the front of s, as many as there is room for.
+    final fn write(self, s: &mut [u8])
+        ensures { s.new ≡ laid (digits width (value self)) s.old }
+    {
+        copy(s, self.bytes().as_slice());
+    }
+}
 
 // The number of all bytes of a short slice: what is left when a field is cut off.
-fn read_short(s: &[u8]) -> u64
+fn short(s: &[u8]) -> u64
     requires { length s.now ≤ 8 }
-    ensures { (result ≡ num s.now) × (result < 256 ^ length s.now) }
+    ensures number { result ≡ num s.now }
+    ensures fits { result < 256 ^ length s.now }
 {
-    let mut acc: u64 = 0;
-    let mut i = 0;
-    while i < s.len() {
-        acc = acc * 256 + s[i] as u64;
-        i += 1;
+    let mut n: u64 = 0;
+    for x in s {
+        n = n * 256 + u64::from(*x);
     }
-    acc
+    n
 }
 
-fn wide(x: u8) -> u32
-    ensures { (result ≡ x) × (result < 256) }
-{
-    x as u32
-}
+impl Number for u16 {
+    type Bytes = [u8; 2];
 
-pub fn read16(s: &[u8]) -> u16
-    ensures { result ≡ num (take 2 s.now) }
-{
-    if s.len() < 2 {
-        return read_short(s) as u16;
+    ghost width = { 2 };
+
+    ghost value = { λ n. n };
+
+    fn read(s: &[u8]) -> u16 {
+        let Some(front) = s.first_chunk() else {
+            return short(s) as u16;
+        };
+        u16::from_be_bytes(*front)
     }
-    (wide(s[0]) * 0x100 + wide(s[1])) as u16
-}
 
-pub fn read32(s: &[u8]) -> u32
-    ensures { result ≡ num (take 4 s.now) }
-{
-    if s.len() < 4 {
-        return read_short(s) as u32;
+    fn bytes(self) -> [u8; 2] {
+        self.to_be_bytes()
     }
-    wide(s[0]) * 0x100_0000 + wide(s[1]) * 0x1_0000 + wide(s[2]) * 0x100 + wide(s[3])
 }
 
-pub fn read64(s: &[u8]) -> u64
-    ensures { result ≡ num (take 8 s.now) }
-{
-    if s.len() < 8 {
-        return read_short(s);
+impl Number for u32 {
+    type Bytes = [u8; 4];
+
+    ghost width = { 4 };
+
+    ghost value = { λ n. n };
+
+    fn read(s: &[u8]) -> u32 {
+        let Some(front) = s.first_chunk() else {
+            return short(s) as u32;
+        };
+        u32::from_be_bytes(*front)
     }
-    (read32(&s[0..4]) as u64) * 0x1_0000_0000 + read32(&s[4..8]) as u64
+
+    fn bytes(self) -> [u8; 4] {
+        self.to_be_bytes()
+    }
 }
 
-// The digits of a number, the highest first.
-pub fn bytes16(v: u16) -> [u8; 2]
-    ensures { result ≡ digits 2 v }
-{
-    let a = v / 256;
-    [(a % 256) as u8, (v % 256) as u8]
-}
+impl Number for u64 {
+    type Bytes = [u8; 8];
 
-pub fn bytes32(v: u32) -> [u8; 4]
-    ensures { result ≡ digits 4 v }
-{
-    let a = v / 256;
-    let b = a / 256;
-    let c = b / 256;
-    [
-        (c % 256) as u8,
-        (b % 256) as u8,
-        (a % 256) as u8,
-        (v % 256) as u8,
-    ]
-}
+    ghost width = { 8 };
 
-pub fn bytes64(v: u64) -> [u8; 8]
-    ensures { result ≡ digits 8 v }
-{
-    let a = v / 256;
-    let b = a / 256;
-    let c = b / 256;
-    let d = c / 256;
-    let e = d / 256;
-    let f = e / 256;
-    let g = f / 256;
-    [
-        (g % 256) as u8,
-        (f % 256) as u8,
-        (e % 256) as u8,
-        (d % 256) as u8,
-        (c % 256) as u8,
-        (b % 256) as u8,
-        (a % 256) as u8,
-        (v % 256) as u8,
-    ]
-}
+    ghost value = { λ n. n };
 
-pub fn write16(s: &mut [u8], v: u16)
-    ensures { s.new ≡ laid (digits 2 v) s.old }
-{
-    copy(s, &bytes16(v));
-}
+    fn read(s: &[u8]) -> u64 {
+        let Some(front) = s.first_chunk() else {
+            return short(s);
+        };
+        u64::from_be_bytes(*front)
+    }
 
-pub fn write32(s: &mut [u8], v: u32)
-    ensures { s.new ≡ laid (digits 4 v) s.old }
-{
-    copy(s, &bytes32(v));
-}
-
-pub fn write64(s: &mut [u8], v: u64)
-    ensures { s.new ≡ laid (digits 8 v) s.old }
-{
-    copy(s, &bytes64(v));
+    fn bytes(self) -> [u8; 8] {
+        self.to_be_bytes()
+    }
 }

@@ -12,7 +12,6 @@ use desk::check;
 use desk::check::Test;
 use desk::output::hand_out;
 use ledger::clock::Timing;
-use ledger::find::Found;
 use ledger::record::{Life, at, check_life, redirect_length};
 use ledger::sound::Soundness;
 
@@ -34,7 +33,7 @@ pub fn pending(
     let Test::Passed = check::room(output) else {
         return Decided::refused(Refusal::OutputShort);
     };
-    let Found::At(k) = finding::record::reference(ledger, reference, client) else {
+    let Some(k) = finding::record::reference(ledger, reference, client) else {
         return Decided::refused(Refusal::NoReference);
     };
     let r = at(ledger, k);

@@ -2,14 +2,13 @@
 // writes and `serve_some` the one that reads. A failed read or write ends the program, and is told on standard error.
 #![tactic(auto)]
 
-ghost use Rattle.std.specs.Prelude.{◌≡◌, ℕ, ◌<◌, ◌≤◌, ◌↔◌, ◌⊎◌, false, length, take, IsTrue, IsNone, IfSome, OnOk, OnErr};
+ghost use Rattle.std.specs.Prelude.{◌≡◌, ℕ, ◌+◌, ◌%◌, ◌^◌, ◌<◌, ◌≤◌, ◌↔◌, [], length, take, IfOk, IfSome, IfNone, IsTrue, OnOk, OnErr, IsOk};
 ghost use Rattle.std.specs.IoError.{error_kind};
 ghost use Rattle.std.specs.Io.KnownBytes.{Appends, Consumes, IsAtEnd};
-ghost use Rattle.lines.specs.Turn.{held, lengths};
-ghost use Rattle.lines.specs.Feed.{left, feed, finish};
+ghost use Rattle.lines.specs.Feed.{feed, finish};
 ghost use Rattle.lines.specs.Run.{puts, pass_on};
 ghost use Rattle.lines.specs.Lines.{run};
-ghost use Rattle.perdigolh.specs.Chunk.{LeavesAs, EndsAs, RunsAs, RunsOn, Begins, WritesFront};
+ghost use Rattle.perdigolh.specs.Chunk.{kept, LeavesAs, EndsAs, RunsAs, RunsOn, Begins, StepWritesFront, WritesFront};
 
 mod tell;
 
@@ -18,6 +17,9 @@ use lines::feed::{State, feed, finish};
 use std::io;
 use std::io::{ErrorKind, Read, Write};
 
+// As much is read at once, and put out before it is written.
+const CHUNK: usize = 65536;
+
 // What ended the program before the input did.
 #[derive(Clone, Copy)]
 enum Failure {
@@ -25,309 +27,176 @@ enum Failure {
     Output(io::Error),
 }
 
-// What was handed to be written: how many bytes, whether all of them were written, and what failed.
-#[derive(Clone, Copy)]
-struct Handed {
-    count: usize,
-    is_written: bool,
-    failure: Option<Failure>,
-}
-
-// What a call of lines leaves: the lengths in use, how much of the chunk it took, and how many bytes of the output's front were handed on.
-#[derive(Clone, Copy)]
-struct Passed {
-    state: State,
-    taken: usize,
-    handed: usize,
-    is_written: bool,
-    failure: Option<Failure>,
-}
-
-// What a step leaves: the lengths in use, how many bytes were read and how many handed on, modulo 2^64, whether there may be more, and whether the input has
-// come to its end. A step after which there is neither failed, and has what failed.
-#[derive(Clone, Copy)]
-struct Step {
-    state: State,
-    got: usize,
-    handed: usize,
-    more: bool,
-    ended: bool,
-    failure: Option<Failure>,
-}
-
-// All of the bytes, in as many writes as they take. A write that takes nothing has failed, and so has one that a signal interrupted.
+// All of the bytes, in as many writes as they take. A write that takes nothing has failed, and so has one that a signal interrupted: the library's `write_all`
+// tries that again, and does not say what a failure leaves.
 fn write_whole<W: Write>(writer: &mut W, bytes: &[u8]) -> io::Result<()>
     ensures whole { OnOk result (Appends (W.contents writer.old) (W.contents writer.new) bytes.now) }
     ensures front { OnErr result ((n : ℕ) × (n < length bytes.now) × Appends (W.contents writer.old) (W.contents writer.new) (take n bytes.now)) }
 {
-    let mut done = 0;
-    while done < bytes.len() {
-        match writer.write(&bytes[done..]) {
-            Ok(0) => return Err(io::Error::from(ErrorKind::WriteZero)),
-            Ok(n) => done += n,
-            Err(e) => return Err(e),
+    let mut rest = bytes;
+    while !rest.is_empty() {
+        match writer.write(rest)? {
+            0 => return Err(io::Error::from(ErrorKind::WriteZero)),
+            n => rest = &rest[n..],
         }
     }
     Ok(())
 }
 
-fn hand<W: Write>(writer: &mut W, bytes: &[u8]) -> Handed
-    ensures count_value { result.count ≡ length bytes.now }
-    ensures whole { IsTrue result.is_written → Appends (W.contents writer.old) (W.contents writer.new) bytes.now }
+// The bytes are counted, modulo 2^64, and written.
+fn hand<W: Write>(writer: &mut W, bytes: &[u8], handed: &mut usize) -> Result<(), Failure>
+    ensures count_value { handed.new ≡ (handed.old + length bytes.now) % 2 ^ 64 }
+    ensures whole { OnOk result (Appends (W.contents writer.old) (W.contents writer.new) bytes.now) }
     ensures front { Begins (W.contents writer.old) (W.contents writer.new) bytes.now }
-    ensures failure { IsTrue result.is_written ↔ IsNone result.failure }
 {
-    match write_whole(writer, bytes) {
-        Ok(()) => Handed {
-            count: bytes.len(),
-            is_written: true,
-            failure: None,
-        },
-        Err(e) => Handed {
-            count: bytes.len(),
-            is_written: false,
-            failure: Some(Failure::Output(e)),
-        },
-    }
+    *handed = handed.wrapping_add(bytes.len());
+    write_whole(writer, bytes).map_err(Failure::Output)
 }
 
-// What is left of a chunk, once: `handed` bytes of the output's front are what the definition puts out, and they are handed on.
-fn pass<W: Write>(
-    writer: &mut W,
-    chunk: &[u8],
-    s: State,
-    line: &mut [u8],
-    ledger: &mut [u8],
-    table: &mut [u8],
-    out: &mut [u8],
-) -> Passed
-    ensures out_after { left (held result.state line.new ledger.new table.new) result.taken result.handed out.new ≡ feed (held s line.old ledger.old table.old) chunk.now out.old }
-    ensures taken_in_bounds { (result.taken ≤ length chunk.now) × (result.handed ≤ length out.new) }
-    ensures written { IsTrue result.is_written → Appends (W.contents writer.old) (W.contents writer.new) (puts (feed (held s line.old ledger.old table.old) chunk.now out.old)) }
-    ensures front { Begins (W.contents writer.old) (W.contents writer.new) (puts (feed (held s line.old ledger.old table.old) chunk.now out.old)) }
-    ensures failure { IsTrue result.is_written ↔ IsNone result.failure }
-{
-    let fed = feed(chunk, s, line, ledger, table, out);
-    let filled = fed.filled;
-    let handed = hand(writer, &out[..filled]);
-    let state = fed.state;
-    Passed {
-        state: state,
-        taken: fed.taken,
-        handed: handed.count,
-        is_written: handed.is_written,
-        failure: handed.failure,
-    }
-}
-
-// A chunk of the input: handed over and its answers written, until all of it is taken.
-fn pass_on<W: Write>(
-    writer: &mut W,
-    chunk: &[u8],
-    s: State,
-    line: &mut [u8],
-    ledger: &mut [u8],
-    table: &mut [u8],
-    out: &mut [u8],
-) -> Step
-    ensures leaves_as { LeavesAs (pass_on (length chunk.now) (held s line.old ledger.old table.old) out.old chunk.now) result.more (held result.state line.new ledger.new table.new) out.new result.handed }
-    ensures got_value { (result.got ≡ length chunk.now) × (result.ended ≡ false) }
-    ensures written { IsTrue result.more → Appends (W.contents writer.old) (W.contents writer.new) (pass_on (length chunk.now) (held s line.old ledger.old table.old) out.old chunk.now).written }
-    ensures front { Begins (W.contents writer.old) (W.contents writer.new) (pass_on (length chunk.now) (held s line.old ledger.old table.old) out.old chunk.now).written }
-    ensures failure { IsTrue result.more ↔ IsNone result.failure }
-{
-    let mut state = s;
-    let mut at = 0;
-    let mut turns = chunk.len();
-    let mut handed = 0usize;
-    while turns > 0 && at < chunk.len() {
-        let passed = pass(writer, &chunk[at..], state, line, ledger, table, out);
-        let left = passed.state;
-        state = left;
-        handed = handed.wrapping_add(passed.handed);
-        if !passed.is_written {
-            return Step {
-                state: state,
-                got: chunk.len(),
-                handed: handed,
-                more: false,
-                ended: false,
-                failure: passed.failure,
-            };
-        }
-        at += passed.taken;
-        turns -= 1;
-    }
-    Step {
-        state: state,
-        got: chunk.len(),
-        handed: handed,
-        more: true,
-        ended: false,
-        failure: None,
-    }
-}
-
-// The end of the input: a line that is begun is answered, and the answer handed on.
-fn end<W: Write>(
-    writer: &mut W,
-    s: State,
-    line: &mut [u8],
-    ledger: &mut [u8],
-    table: &mut [u8],
-    out: &mut [u8],
-) -> Passed
-    ensures out_after { left (held result.state line.new ledger.new table.new) result.taken result.handed out.new ≡ finish (held s line.old ledger.old table.old) out.old }
-    ensures handed_in_bounds { result.handed ≤ length out.new }
-    ensures written { IsTrue result.is_written → Appends (W.contents writer.old) (W.contents writer.new) (puts (finish (held s line.old ledger.old table.old) out.old)) }
-    ensures front { Begins (W.contents writer.old) (W.contents writer.new) (puts (finish (held s line.old ledger.old table.old) out.old)) }
-    ensures failure { IsTrue result.is_written ↔ IsNone result.failure }
-{
-    let fed = finish(s, line, ledger, table, out);
-    let filled = fed.filled;
-    let last = hand(writer, &out[..filled]);
-    let state = fed.state;
-    Passed {
-        state: state,
-        taken: fed.taken,
-        handed: last.count,
-        is_written: last.is_written,
-        failure: last.failure,
-    }
-}
-
-// A read that failed: one that a signal interrupted has read nothing, and is tried again.
-fn failed(s: State, error: io::Error) -> Step
-    ensures unchanged { (result.state ≡ s) × ((result.got ≡ 0) × ((result.handed ≡ 0) × (result.ended ≡ false))) }
-    ensures again { IsTrue result.more ↔ (error_kind error ≡ ErrorKind.Interrupted) }
-    ensures failure { IsTrue result.more ↔ IsNone result.failure }
+// What was read where a read failed: nothing, where a signal interrupted it, and it is tried again.
+fn failed(error: io::Error) -> Result<usize, Failure>
+    ensures unchanged { IfOk result (λ n. n ≡ 0) }
+    ensures again { IsOk result ↔ (error_kind error ≡ ErrorKind.Interrupted) }
 {
     if error.kind() == ErrorKind::Interrupted {
-        return Step {
-            state: s,
-            got: 0,
-            handed: 0,
-            more: true,
-            ended: false,
-            failure: None,
-        };
+        return Ok(0);
     }
-    Step {
-        state: s,
-        got: 0,
-        handed: 0,
-        more: false,
-        ended: false,
-        failure: Some(Failure::Input(error)),
-    }
+    Err(Failure::Input(error))
 }
 
-// One read, as much as there is: what it put at the front of the input's buffer is passed on.
-fn serve_some<R: Read, W: Write>(
-    reader: &mut R,
-    writer: &mut W,
-    s: State,
-    input: &mut [u8],
-    line: &mut [u8],
-    ledger: &mut [u8],
-    table: &mut [u8],
-    out: &mut [u8],
-) -> Step
-    ensures leaves_as { LeavesAs (pass_on (length (take result.got input.new)) (held s line.old ledger.old table.old) out.old (take result.got input.new)) result.more (held result.state line.new ledger.new table.new) out.new result.handed }
-    ensures ends_as { EndsAs (finish (held s line.old ledger.old table.old) out.old) result.ended (held result.state line.new ledger.new table.new) out.new result.handed }
-    ensures read { Consumes (R.remaining reader.old) (R.remaining reader.new) (take result.got input.new) }
-    ensures written { IsTrue result.more → Appends (W.contents writer.old) (W.contents writer.new) (pass_on (length (take result.got input.new)) (held s line.old ledger.old table.old) out.old (take result.got input.new)).written }
-    ensures last { IsTrue result.ended → Appends (W.contents writer.old) (W.contents writer.new) (puts (finish (held s line.old ledger.old table.old) out.old)) }
-    ensures at_end { IsTrue result.ended → (result.got ≡ 0) × (0 < length input.old → IsAtEnd (R.remaining reader.new)) }
-    ensures front { Begins (W.contents writer.old) (W.contents writer.new) (pass_on (length (take result.got input.new)) (held s line.old ledger.old table.old) out.old (take result.got input.new)).written ⊎ ((result.got ≡ 0) × (0 < length input.old → IsAtEnd (R.remaining reader.new)) × Begins (W.contents writer.old) (W.contents writer.new) (puts (finish (held s line.old ledger.old table.old) out.old))) }
-    ensures failure { (IsTrue result.more ⊎ IsTrue result.ended) ↔ IsNone result.failure }
-{
-    match reader.read(input) {
-        Err(e) => failed(s, e),
-        Ok(0) => {
-            let last = end(writer, s, line, ledger, table, out);
-            let state = last.state;
-            Step {
-                state: state,
-                got: 0,
-                handed: last.handed,
-                more: false,
-                ended: last.is_written,
-                failure: last.failure,
+// What is kept from read to read: the lengths in use, the buffers, and how many bytes were handed on to be written, modulo 2^64.
+#[derive(Drop)]
+struct Desk {
+    state: State,
+    line: [u8; Line::KEPT],
+    ledger: [u8; Buffer::LEDGER],
+    table: [u8; Buffer::TABLE],
+    out: [u8; CHUNK],
+    handed: usize,
+}
+
+impl Desk {
+    // What is left of a chunk, once: its answers, at the front of the output's buffer, are handed on. The result is how much of it was taken.
+    fn pass<W: Write>(&mut self, writer: &mut W, chunk: &[u8]) -> Result<usize, Failure>
+        ensures out_after { EndsAs (feed (kept self.old) chunk.now self.old.out) self.old self.new }
+        ensures taken { IfOk result (λ n. n ≡ (feed (kept self.old) chunk.now self.old.out).taken) }
+        ensures taken_in_bounds { ((feed (kept self.old) chunk.now self.old.out).taken ≤ length chunk.now) × ((feed (kept self.old) chunk.now self.old.out).filled ≤ length self.new.out) }
+        ensures written { OnOk result (Appends (W.contents writer.old) (W.contents writer.new) (puts (feed (kept self.old) chunk.now self.old.out))) }
+        ensures front { Begins (W.contents writer.old) (W.contents writer.new) (puts (feed (kept self.old) chunk.now self.old.out)) }
+    {
+        let fed = feed(
+            chunk,
+            self.state,
+            &mut self.line,
+            &mut self.ledger,
+            &mut self.table,
+            &mut self.out,
+        );
+        self.state = fed.state;
+        hand(writer, &self.out[..fed.filled], &mut self.handed)?;
+        Ok(fed.taken)
+    }
+
+    // A chunk of the input: handed over and its answers written, until all of it is taken, in as many calls at most as it has bytes.
+    fn pass_on<W: Write>(&mut self, writer: &mut W, chunk: &[u8]) -> Result<(), Failure>
+        ensures leaves_as { OnOk result (LeavesAs (pass_on (length chunk.now) (kept self.old) self.old.out chunk.now) self.old self.new) }
+        ensures written { OnOk result (Appends (W.contents writer.old) (W.contents writer.new) (pass_on (length chunk.now) (kept self.old) self.old.out chunk.now).written) }
+        ensures front { Begins (W.contents writer.old) (W.contents writer.new) (pass_on (length chunk.now) (kept self.old) self.old.out chunk.now).written }
+    {
+        let mut rest = chunk;
+        for _ in 0..chunk.len() {
+            if rest.is_empty() {
+                break;
             }
+            let taken = self.pass(writer, rest)?;
+            rest = &rest[taken..];
         }
-        Ok(n) => pass_on(writer, &input[..n], s, line, ledger, table, out),
+        Ok(())
     }
-}
 
-// The whole input, from the first state. A loop that is proved has to end, and nothing says that the input does: its turns are counted down from a number
-// that no run uses up.
-fn run<R: Read, W: Write>(
-    reader: &mut R,
-    writer: &mut W,
-    input: &mut [u8],
-    line: &mut [u8],
-    ledger: &mut [u8],
-    table: &mut [u8],
-    out: &mut [u8],
-) -> Step
-    ensures runs_as { RunsAs (held (lengths 0 0 0) line.old ledger.old table.old) out.old result.ended (held result.state line.new ledger.new table.new) out.new result.handed }
-    ensures runs_on { RunsOn (held (lengths 0 0 0) line.old ledger.old table.old) out.old result.ended (held result.state line.new ledger.new table.new) out.new result.handed (R.remaining reader.old) (R.remaining reader.new) (W.contents writer.old) (W.contents writer.new) }
-    ensures at_end { IsTrue result.ended → 0 < length input.old → IsAtEnd (R.remaining reader.new) }
-    ensures front { WritesFront (held (lengths 0 0 0) line.old ledger.old table.old) out.old (0 < length input.old) (R.remaining reader.old) (R.remaining reader.new) (W.contents writer.old) (W.contents writer.new) }
-    ensures failure { (IsTrue result.more ⊎ IsTrue result.ended) ↔ IsNone result.failure }
-{
-    let mut state = State::new();
-    let mut turns = usize::MAX;
-    let mut handed = 0usize;
-    while turns > 0 {
-        let step = serve_some(reader, writer, state, input, line, ledger, table, out);
-        let left = step.state;
-        state = left;
-        handed = handed.wrapping_add(step.handed);
-        if !step.more {
-            return Step {
-                state: state,
-                got: 0,
-                handed: handed,
-                more: false,
-                ended: step.ended,
-                failure: step.failure,
+    // The end of the input: a line that is begun is answered, and the answer handed on.
+    fn end<W: Write>(&mut self, writer: &mut W) -> Result<(), Failure>
+        ensures out_after { EndsAs (finish (kept self.old) self.old.out) self.old self.new }
+        ensures handed_in_bounds { (finish (kept self.old) self.old.out).filled ≤ length self.new.out }
+        ensures written { OnOk result (Appends (W.contents writer.old) (W.contents writer.new) (puts (finish (kept self.old) self.old.out))) }
+        ensures front { Begins (W.contents writer.old) (W.contents writer.new) (puts (finish (kept self.old) self.old.out)) }
+    {
+        let fed = finish(
+            self.state,
+            &mut self.line,
+            &mut self.ledger,
+            &mut self.table,
+            &mut self.out,
+        );
+        self.state = fed.state;
+        hand(writer, &self.out[..fed.filled], &mut self.handed)
+    }
+
+    // One read, as much as there is: what it put at the front of the input's buffer is passed on. The result is how many bytes that is, or nothing where the
+    // input has come to its end.
+    fn serve_some<R: Read, W: Write>(
+        &mut self,
+        reader: &mut R,
+        writer: &mut W,
+        input: &mut [u8],
+    ) -> Result<Option<usize>, Failure>
+        ensures leaves_as { IfOk result (λ got. IfSome got (λ n. LeavesAs (pass_on (length (take n input.new)) (kept self.old) self.old.out (take n input.new)) self.old self.new)) }
+        ensures ends_as { IfOk result (λ got. IfNone got (EndsAs (finish (kept self.old) self.old.out) self.old self.new)) }
+        ensures read { IfOk result (λ got. IfSome got (λ n. Consumes (R.remaining reader.old) (R.remaining reader.new) (take n input.new))) }
+        ensures written { IfOk result (λ got. IfSome got (λ n. Appends (W.contents writer.old) (W.contents writer.new) (pass_on (length (take n input.new)) (kept self.old) self.old.out (take n input.new)).written)) }
+        ensures last { IfOk result (λ got. IfNone got (Appends (W.contents writer.old) (W.contents writer.new) (puts (finish (kept self.old) self.old.out)))) }
+        ensures at_end { IfOk result (λ got. IfNone got (Consumes (R.remaining reader.old) (R.remaining reader.new) [] × (0 < length input.old → IsAtEnd (R.remaining reader.new)))) }
+        ensures front { StepWritesFront (kept self.old) self.old.out input.new (0 < length input.old) (R.remaining reader.old) (R.remaining reader.new) (W.contents writer.old) (W.contents writer.new) }
+    {
+        let got = match reader.read(input) {
+            Ok(0) => {
+                self.end(writer)?;
+                return Ok(None);
+            }
+            Ok(n) => n,
+            Err(e) => failed(e)?,
+        };
+        self.pass_on(writer, &input[..got])?;
+        Ok(Some(got))
+    }
+
+    // The whole input, and whether it has come to its end. A loop that is proved has to end, and nothing says that the input does: its turns are counted to a
+    // number that no run comes to.
+    fn run<R: Read, W: Write>(
+        &mut self,
+        reader: &mut R,
+        writer: &mut W,
+        input: &mut [u8],
+    ) -> Result<bool, Failure>
+        ensures runs_as { IfOk result (λ ended. IsTrue ended → RunsAs self.old self.new) }
+        ensures runs_on { IfOk result (λ ended. IsTrue ended → RunsOn self.old self.new (R.remaining reader.old) (R.remaining reader.new) (W.contents writer.old) (W.contents writer.new)) }
+        ensures at_end { IfOk result (λ ended. IsTrue ended → 0 < length input.old → IsAtEnd (R.remaining reader.new)) }
+        ensures front { WritesFront (kept self.old) self.old.out (0 < length input.old) (R.remaining reader.old) (R.remaining reader.new) (W.contents writer.old) (W.contents writer.new) }
+    {
+        for _ in 0..usize::MAX {
+            let Some(_) = self.serve_some(reader, writer, input)? else {
+                return Ok(true);
             };
         }
-        turns -= 1;
-    }
-    Step {
-        state: state,
-        got: 0,
-        handed: handed,
-        more: true,
-        ended: false,
-        failure: None,
+        Ok(false)
     }
 }
 
 // The whole program, in buffers of the right sizes. For any reader and writer that tell their bytes: where it comes to the end of the input, it has written the
 // run of the input's lines, and whatever fails, the beginning of that run and nothing else.
-fn serve<R: Read, W: Write>(reader: &mut R, writer: &mut W) -> Step
-    ensures whole { IsTrue result.ended → IfSome (R.remaining reader.old) (λ xs. Appends (W.contents writer.old) (W.contents writer.new) (run xs)) }
+fn serve<R: Read, W: Write>(reader: &mut R, writer: &mut W) -> Result<bool, Failure>
+    ensures whole { IfOk result (λ ended. IsTrue ended → IfSome (R.remaining reader.old) (λ xs. Appends (W.contents writer.old) (W.contents writer.new) (run xs))) }
     ensures front { IfSome (R.remaining reader.old) (λ xs. Begins (W.contents writer.old) (W.contents writer.new) (run xs)) }
-    ensures failure { (IsTrue result.more ⊎ IsTrue result.ended) ↔ IsNone result.failure }
 {
-    let mut input = [0u8; 65536];
-    let mut line = [0u8; Line::KEPT];
-    let mut ledger = [0u8; Buffer::LEDGER];
-    let mut table = [0u8; Buffer::TABLE];
-    let mut out = [0u8; 65536];
-    run(
-        reader,
-        writer,
-        &mut input,
-        &mut line,
-        &mut ledger,
-        &mut table,
-        &mut out,
-    )
+    let mut desk = Desk {
+        state: State::new(),
+        line: [0u8; Line::KEPT],
+        ledger: [0u8; Buffer::LEDGER],
+        table: [0u8; Buffer::TABLE],
+        out: [0u8; CHUNK],
+        handed: 0,
+    };
+    desk.run(reader, writer, &mut [0u8; CHUNK])
 }
 
 // What is told of a failure names the stream.
@@ -339,8 +208,7 @@ fn tell_of(to: &mut impl Write, failure: Failure) -> io::Result<()> {
 }
 
 fn main(rt: HostRuntime) {
-    let step = serve(&mut rt.stdin(), &mut rt.stdout());
-    if let Some(failure) = step.failure {
+    if let Err(failure) = serve(&mut rt.stdin(), &mut rt.stdout()) {
         // Where standard error fails too, nobody is left to be told.
         let _ = tell_of(&mut rt.stderr(), failure);
     }

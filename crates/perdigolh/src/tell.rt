@@ -8,19 +8,18 @@ use std::io::{Cursor, Write};
 // As much of an error's text is told: the system's are shorter.
 const LONGEST: usize = 120;
 
-// The words alone: behind them an error is printed with its number.
+// What an error's number is printed behind.
+const NUMBER: &[u8] = b" (os error ";
+
+// The words alone.
 fn words(text: &[u8]) -> &[u8]
     ensures { (n : ℕ) × (result.now ≡ take n text.now) }
 {
-    for at in 0..text.len() {
-        if text[at..].starts_with(b" (os error ") {
-            return &text[..at];
-        }
-    }
-    text
+    let end = text.windows(NUMBER.len()).position(|part| part == NUMBER);
+    &text[..end.unwrap_or(text.len())]
 }
 
-// A line of what failed, as the caller names it, a colon and a space, and the words.
+// A line of what failed, as the caller names it, a colon and a space, and the words: printed as a whole, an error has its number behind them.
 pub fn fail<W: Write>(to: &mut W, what: &[u8], error: io::Error) -> io::Result<()>
     ensures { OnOk result ((words : List ℕ) × Appends (W.contents to.old) (W.contents to.new) (what.now ++ 58 ∷ 32 ∷ [] ++ words ++ 10 ∷ [])) }
 {

@@ -1,89 +1,57 @@
 // One call a line, by the words of the line. Ids, keys and values are one letter repeated; scopes and holders are a digit.
-use super::words::{begins, letters, number, rest, word};
+use super::words::{letters, number, rest, word};
 use super::{say, table};
-use octets::part::{cut, same};
+use desk::answer::{Answer, Decided};
+use desk::request::{DecideRequest, PushRequest, ResourceRequest, TokenRequest};
 use std::io;
 
-fn start(rt: &impl Print, line: &[u8], l: &mut [u8]) -> io::Result<()> {
-    let n = start::start(l);
-    say::number(rt, line, n, l)
+fn push(line: &[u8], l: &mut [u8], time: u64) -> Answer {
+    let [clients, client, key, scope, fresh, _] = letters(line);
+    let request = PushRequest {
+        client: &[client; 16],
+        key: &[key; 32],
+        scope: u32::from(scope),
+        challenge: word(line, 7),
+        redirect: rest(line, 8),
+        fresh: &[fresh; 32],
+    };
+    push::push(l, time, table::first(&table::five(), clients), request)
 }
 
-// how many clients the table has, client, key, scope, fresh value; challenge, redirect
-fn push(rt: &impl Print, line: &[u8], l: &mut [u8], time: u64, w: [u8; 6]) -> io::Result<()> {
-    let t = table::five();
-    let a = push::push(
-        l,
-        time,
-        cut(&t, 0, (w[0] as usize) << 6),
-        &[w[1]; 16],
-        &[w[2]; 32],
-        w[3] as u32,
-        word(line, 7),
-        rest(line, 8),
-        &[w[4]; 32],
-    );
-    say::answer(rt, line, a, l)
+fn decide(line: &[u8], l: &mut [u8], time: u64, out: &mut [u8]) -> Decided {
+    let [reference, client, yes, holder, fresh, _] = letters(line);
+    let request = DecideRequest {
+        reference: &[reference; 32],
+        client: &[client; 16],
+        yes: yes == b'y',
+        holder: u64::from(holder),
+        fresh: &[fresh; 32],
+    };
+    decide::decide(l, time, request, out)
 }
 
-// reference, client, yes or no, holder, fresh value
-fn decide_into(
-    rt: &impl Print,
-    line: &[u8],
-    l: &mut [u8],
-    time: u64,
-    w: [u8; 6],
-    out: &mut [u8],
-) -> io::Result<()> {
-    let d = decide::decide(
-        l,
-        time,
-        &[w[0]; 32],
-        &[w[1]; 16],
-        w[2] == b'y',
-        w[3] as u64,
-        &[w[4]; 32],
-        out,
-    );
-    say::decided(rt, line, d, out, l)
+fn token(line: &[u8], l: &mut [u8], time: u64) -> Answer {
+    let [clients, client, key, presented, code, fresh] = letters(line);
+    let request = TokenRequest {
+        client: &[client; 16],
+        key: &[key; 32],
+        presented: &[presented; 32],
+        code: &[code; 32],
+        verifier: rest(line, 8),
+        fresh: &[fresh; 32],
+    };
+    token::token(l, time, table::first(&table::five(), clients), request)
 }
 
-// With room for 64 bytes and two more, or where the line ends in the word short for one byte less than 64.
-fn decide(rt: &impl Print, line: &[u8], l: &mut [u8], time: u64, w: [u8; 6]) -> io::Result<()> {
-    if same(word(line, 7), b"short") {
-        let mut short = [b'.'; 63];
-        return decide_into(rt, line, l, time, w, &mut short);
-    }
-    let mut out = [b'.'; 66];
-    decide_into(rt, line, l, time, w, &mut out)
-}
-
-// how many clients the table has, client, key, presented key, code, fresh value; verifier
-fn token(rt: &impl Print, line: &[u8], l: &mut [u8], time: u64, w: [u8; 6]) -> io::Result<()> {
-    let t = table::five();
-    let a = token::token(
-        l,
-        time,
-        cut(&t, 0, (w[0] as usize) << 6),
-        &[w[1]; 16],
-        &[w[2]; 32],
-        &[w[3]; 32],
-        &[w[4]; 32],
-        rest(line, 8),
-        &[w[5]; 32],
-    );
-    say::answer(rt, line, a, l)
-}
-
-// token, presented key, scope, holder
-fn resource(rt: &impl Print, line: &[u8], l: &mut [u8], time: u64, w: [u8; 6]) -> io::Result<()> {
-    let a = resource::resource(l, time, &[w[0]; 32], &[w[1]; 32], w[2] as u32, w[3] as u64);
-    say::answer(rt, line, a, l)
-}
-
-fn sweep(rt: &impl Print, line: &[u8], l: &mut [u8], time: u64) -> io::Result<()> {
-    let s = sweep::sweep(l, time);
-    say::swept(rt, line, s, l)
+fn resource(line: &[u8], l: &mut [u8], time: u64) -> Answer {
+    let [token, presented, scope, holder, _, _] = letters(line);
+    let request = ResourceRequest {
+        token: &[token; 32],
+        presented: &[presented; 32],
+        scope: u32::from(scope),
+        holder: u64::from(holder),
+    };
+    resource::resource(l, time, request)
 }
 
 #[derive(Clone, Copy)]
@@ -94,52 +62,48 @@ enum Call {
     Token,
     Resource,
     Sweep,
-    Next,
-    Remark,
 }
 
-// A line is named by its call.
-fn named(line: &[u8]) -> Call {
-    if begins(line, b"start") {
-        return Call::Start;
-    }
-    if begins(line, b"push") {
-        return Call::Push;
-    }
-    if begins(line, b"decide") {
-        return Call::Decide;
-    }
-    if begins(line, b"token") {
-        return Call::Token;
-    }
-    if begins(line, b"resource") {
-        return Call::Resource;
-    }
-    if begins(line, b"sweep") {
-        return Call::Sweep;
-    }
-    if begins(line, b"next") {
-        return Call::Next;
-    }
-    Call::Remark
+const NAMES: [(&[u8], Call); 6] = [
+    (b"start", Call::Start),
+    (b"push", Call::Push),
+    (b"decide", Call::Decide),
+    (b"token", Call::Token),
+    (b"resource", Call::Resource),
+    (b"sweep", Call::Sweep),
+];
+
+// A line begins with the name of its call, or is a remark.
+fn named(line: &[u8]) -> Option<Call> {
+    NAMES
+        .iter()
+        .find(|(name, _)| line.starts_with(name))
+        .map(|(_, call)| *call)
 }
 
-// Behind the name a line has the time, and then what the call asks. `next` with a number sets the ledger's next number.
+// Behind the name a line has the time, and then what the call asks.
 pub fn play(rt: &impl Print, line: &[u8], l: &mut [u8]) -> io::Result<()> {
-    let n = number(line, 1);
-    let w = letters(line);
-    let call = named(line);
+    let Some(call) = named(line) else {
+        return Ok(());
+    };
+    rt.write_all(word(line, 0))?;
+    let time = number(line, 1);
     match call {
-        Call::Start => start(rt, line, l),
-        Call::Push => push(rt, line, l, n, w),
-        Call::Decide => decide(rt, line, l, n, w),
-        Call::Token => token(rt, line, l, n, w),
-        Call::Resource => resource(rt, line, l, n, w),
-        Call::Sweep => sweep(rt, line, l, n),
-        Call::Next => {
-            ledger::clock::set_next(l, n);
-            Ok(())
+        Call::Start => say::number(rt, start::start(l))?,
+        Call::Push => say::answer(rt, push(line, l, time))?,
+        Call::Decide => {
+            // Room for 64 bytes and two more, or where the line ends in the word short for one byte less than 64.
+            let mut out = [b'.'; 66];
+            let room = match word(line, 7) {
+                b"short" => 63,
+                _ => 66,
+            };
+            let d = decide(line, l, time, &mut out[..room]);
+            say::decided(rt, d, &out[..room])?
         }
-        Call::Remark => Ok(()),
+        Call::Token => say::answer(rt, token(line, l, time))?,
+        Call::Resource => say::answer(rt, resource(line, l, time))?,
+        Call::Sweep => say::swept(rt, sweep::sweep(l, time))?,
     }
+    say::head(rt, l)
 }

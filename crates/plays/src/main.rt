@@ -2,68 +2,44 @@
 // The script is the file stdin. The expected lines are those of tests/runs/plays.py, which has them from documents 01 and 02.
 #![tactic(auto)]
 
-ghost use Rattle.std.specs.Prelude.{◌≤◌, IfOk, length};
-
 mod calls;
 mod say;
 mod table;
 mod words;
 
+use ledger::clock::set_next;
 use std::io;
-use std::io::{ErrorKind, Read};
+use std::io::Read;
 
-// As much of the input as fits into the buffer: how many bytes it put at the front. A read that a signal interrupted is tried again.
-fn read_full(input: &mut impl Read, buffer: &mut [u8]) -> io::Result<usize>
-    ensures { IfOk result (λ n. n ≤ length buffer.new) }
-{
-    let mut done = 0;
-    for _ in 0..u64::MAX {
-        if done == buffer.len() {
-            break;
-        }
-        match input.read(&mut buffer[done..]) {
-            Ok(0) => break,
-            Ok(n) => done += n,
-            Err(e) => {
-                if e.kind() != ErrorKind::Interrupted {
-                    return Err(e);
-                }
-            }
-        }
-    }
-    Ok(done)
-}
-
-// What a line does: `ledger` with a length and a letter fills a ledger anew at the front of space, and any other line is played on the one of n bytes
-// that is there. Answers the length of the ledger afterwards.
+// What a line does: `ledger` with a length and a letter fills a ledger anew at the front of space, `next` with a number sets the next number of the one of
+// n bytes that is there, and any other line is played on it. Answers the length of the ledger afterwards.
 fn turn(rt: &impl Print, line: &[u8], space: &mut [u8], n: usize) -> io::Result<usize> {
-    if words::begins(line, b"ledger") {
+    if line.starts_with(b"ledger") {
         let length = words::number(line, 1) as usize;
-        if length <= space.len() {
-            words::fill(&mut space[0..length], words::letter(line, 2));
+        if let Some(ledger) = space.get_mut(..length) {
+            ledger.fill(words::letter(line, 2));
         }
         return Ok(length);
     }
-    if n <= space.len() {
-        calls::play(rt, line, &mut space[0..n])?;
+    if let Some(ledger) = space.get_mut(..n) {
+        if line.starts_with(b"next") {
+            set_next(ledger, words::number(line, 1));
+        } else {
+            calls::play(rt, line, ledger)?;
+        }
     }
     Ok(n)
 }
 
-fn play(rt: &impl Print, script: &[u8], space: &mut [u8]) -> io::Result<()> {
+fn main(rt: HostRuntime) -> io::Result<()> {
+    // Empty lines fill the buffer up behind a shorter script: they do nothing.
+    let mut script = [0u8; 65536];
+    rt.stdin().chain(io::repeat(b'\n')).read_exact(&mut script)?;
+    // A length, since a part of space that is kept from line to line and lent anew in some would have two lifetimes, which is not proved yet.
+    let mut space = [0u8; 51488];
     let mut n = 0;
-    let mut at = 0;
-    while at < script.len() {
-        let line = words::line(script, at);
-        n = turn(rt, line, space, n)?;
-        at += line.len() + 1;
+    for line in script.split(|b| *b == b'\n') {
+        n = turn(&rt, line, &mut space, n)?;
     }
     Ok(())
-}
-
-fn main(rt: HostRuntime) -> io::Result<()> {
-    let mut script = [0u8; 65536];
-    let n = read_full(&mut rt.stdin(), &mut script)?;
-    let mut space = [0u8; 51488];
-    play(&rt, &script[..n], &mut space)
 }

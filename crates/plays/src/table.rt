@@ -5,11 +5,11 @@ use super::words::octet;
 pub fn five() -> [u8; 320] {
     let text =
         b"AAAAAAAAAAAAAAAAaaaaaaaaaaaaaaaaaaaaaaaaaaaaaaaa00052W0000000000BBBBBBBBBBBBBBBBbbbbbbbbbbbbbbbbbbbbbbbbbbbbbbbb00072W0000000000CCCCCCCCCCCCCCCCcccccccccccccccccccccccccccccccc0007000000000000DDDDDDDDDDDDDDDDdddddddddddddddddddddddddddddddd0007010000000000EEEEEEEEEEEEEEEEeeeeeeeeeeeeeeeeeeeeeeeeeeeeeeee00072X0000000000";
-    let mut t = [0u8; 320];
-    let mut i = 0;
-    while i < 320 {
-        t[i] = octet(text[i]);
-        i += 1;
-    }
-    t
+    text.map(octet)
+}
+
+// As many clients of the table as there are, at most.
+pub fn first(table: &[u8], clients: u8) -> &[u8] {
+    let n = 64 * usize::from(clients);
+    &table[..n.min(table.len())]
 }

@@ -8,36 +8,36 @@ ghost use Rattle.ledger.specs.Fields.{rec, slots};
 ghost use Rattle.ledger.specs.Write.{pushed};
 ghost use Rattle.desk.specs.Answers.{answer_of};
 ghost use Rattle.desk.specs.Outcome.{left};
+ghost use Rattle.desk.specs.Requests.{pushing};
 ghost use Rattle.desk.specs.Push.{entered, push};
 
-use clients::known::Known;
 use clients::lifetime::lifetime_of;
 use clients::record::{client_at, permitted};
 use clients::table::Table;
 use desk::answer::{Answer, Refusal};
 use desk::check;
-use desk::check::{Bits, Test};
+use desk::check::Test;
+use desk::request::PushRequest;
 use ledger::clock::{Timing, next_number, set_clock, set_next};
-use ledger::find::Found;
 use ledger::limit::Ledger;
 use ledger::pool::Value;
 use ledger::record::address;
 use ledger::sound::Soundness;
 
 // Writes a push into its record, and answers what the record then has.
-fn push_record(
-    r: &mut [u8],
-    scope: u32,
-    grant: u64,
-    expiry: u64,
-    client: &[u8; 16],
-    challenge: &[u8],
-    fresh: &[u8; 32],
-    redirect: &[u8],
-) -> Answer
-    ensures { (r.new ≡ pushed scope grant expiry client.now challenge.now fresh.now redirect.now r.old) × (result ≡ answer_of r.new) }
+fn push_record(r: &mut [u8], scope: u32, grant: u64, expiry: u64, request: PushRequest) -> Answer
+    ensures { (r.new ≡ pushed scope grant expiry request.entry.client.now request.entry.challenge.now request.entry.fresh.now request.entry.redirect.now r.old) × (result ≡ answer_of r.new) }
 {
-    ledger::write::pushed(r, scope, grant, expiry, client, challenge, fresh, redirect);
+    ledger::write::pushed(
+        r,
+        scope,
+        grant,
+        expiry,
+        request.client,
+        request.challenge,
+        request.fresh,
+        request.redirect,
+    );
     Answer::of(r)
 }
 
@@ -49,13 +49,10 @@ fn push_at(
     scope: u32,
     number: u64,
     expiry: u64,
-    client: &[u8; 16],
-    challenge: &[u8],
-    fresh: &[u8; 32],
-    redirect: &[u8],
+    request: PushRequest,
 ) -> Answer
     requires { (k < slots ledger.old) × (number < last_number) }
-    ensures { left result ledger.new ≡ entered ledger.old time k number (pushed scope number expiry client.now challenge.now fresh.now redirect.now (rec ledger.old k)) }
+    ensures { left result ledger.new ≡ entered ledger.old time k number (pushed scope number expiry request.entry.client.now request.entry.challenge.now request.entry.fresh.now request.entry.redirect.now (rec ledger.old k)) }
 {
     let a = address(k);
     let answer = push_record(
@@ -63,28 +60,15 @@ fn push_at(
         scope,
         number,
         expiry,
-        client,
-        challenge,
-        fresh,
-        redirect,
+        request,
     );
     set_next(ledger, number + 1);
     set_clock(ledger, time);
     answer
 }
 
-pub fn push(
-    ledger: &mut [u8],
-    time: u64,
-    table: &[u8],
-    client: &[u8; 16],
-    key: &[u8; 32],
-    scope: u32,
-    challenge: &[u8],
-    redirect: &[u8],
-    fresh: &[u8; 32],
-) -> Answer
-    ensures { left result ledger.new ≡ push ledger.old time table.now (record { client = client.now; key = key.now; scope = scope; challenge = challenge.now; redirect = redirect.now; fresh = fresh.now }) }
+pub fn push(ledger: &mut [u8], time: u64, table: &[u8], request: PushRequest) -> Answer
+    ensures { left result ledger.new ≡ push ledger.old time table.now (pushing request.entry) }
 {
     let Soundness::Sound = soundness::check(ledger) else {
         return Answer::refused(Refusal::LedgerUnsound);
@@ -95,19 +79,19 @@ pub fn push(
     let Table::Sound = clients::table::check(table) else {
         return Answer::refused(Refusal::TableUnsound);
     };
-    let Known::At(who) = clients::known::find(table, client, key) else {
+    let Some(who) = clients::known::find(table, request.client, request.key) else {
         return Answer::refused(Refusal::ClientUnknown);
     };
-    let Test::Passed = check::texts(redirect, challenge) else {
+    let Test::Passed = check::texts(request.redirect, request.challenge) else {
         return Answer::refused(Refusal::IllFormed);
     };
-    let Bits::Granted(bits) = check::granted(scope, permitted(table, who)) else {
+    let Some(bits) = check::granted(request.scope, permitted(table, who)) else {
         return Answer::refused(Refusal::ScopeRefused);
     };
-    let Value::New = finding::pool::check(ledger, fresh) else {
+    let Value::New = finding::pool::check(ledger, request.fresh) else {
         return Answer::refused(Refusal::FreshTaken);
     };
-    let Found::At(k) = finding::record::free(ledger) else {
+    let Some(k) = finding::record::free(ledger) else {
         return Answer::refused(Refusal::LedgerFull);
     };
     let number = next_number(ledger);
@@ -121,9 +105,6 @@ pub fn push(
         bits,
         number,
         time + lifetime_of(client_at(table, who)),
-        client,
-        challenge,
-        fresh,
-        redirect,
+        request,
     )
 }

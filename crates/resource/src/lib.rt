@@ -4,75 +4,62 @@
 
 ghost use Rattle.std.specs.Prelude.{◌≡◌};
 ghost use Rattle.desk.specs.Outcome.{left};
+ghost use Rattle.desk.specs.Requests.{reading};
 ghost use Rattle.desk.specs.Resource.{look, resource_by, resource};
 
-use desk::answer::{Answer, Reading, Refusal};
+use desk::answer::{Answer, Refusal};
 use desk::check;
 use desk::check::Test;
+use desk::request::ResourceRequest;
 use ledger::clock::{Timing, set_clock};
-use ledger::find::Found;
 use ledger::record::{Life, at, check_life};
 use ledger::sound::Soundness;
 
 // The looking half: it writes nothing.
-pub fn look(
-    ledger: &[u8],
-    time: u64,
-    token: &[u8; 32],
-    presented: &[u8; 32],
-    scope: u32,
-    holder: u64,
-) -> Reading
-    ensures { result ≡ look ledger.now time (record { token = token.now; presented = presented.now; scope = scope; holder = holder }) }
+pub fn look(ledger: &[u8], time: u64, request: ResourceRequest) -> Result<Answer, Refusal>
+    ensures { result ≡ look ledger.now time (reading request.entry) }
 {
     let Soundness::Sound = soundness::check(ledger) else {
-        return Reading::Refused(Refusal::LedgerUnsound);
+        return Err(Refusal::LedgerUnsound);
     };
     let Timing::Timely = ledger::clock::check(ledger, time) else {
-        return Reading::Refused(Refusal::TimeWrong);
+        return Err(Refusal::TimeWrong);
     };
-    let Found::At(k) = finding::record::token(ledger, token) else {
-        return Reading::Refused(Refusal::NoToken);
+    let Some(k) = finding::record::token(ledger, request.token) else {
+        return Err(Refusal::NoToken);
     };
     let r = at(ledger, k);
     let Life::Alive = check_life(r, time) else {
-        return Reading::Refused(Refusal::RecordExpired);
+        return Err(Refusal::RecordExpired);
     };
-    let Test::Passed = check::bound(r, presented) else {
-        return Reading::Refused(Refusal::KeyDiffers);
+    let Test::Passed = check::bound(r, request.presented) else {
+        return Err(Refusal::KeyDiffers);
     };
-    let Test::Passed = check::within(scope, ledger::record::scope(r)) else {
-        return Reading::Refused(Refusal::ScopeRefused);
+    let Test::Passed = check::within(request.scope, ledger::record::scope(r)) else {
+        return Err(Refusal::ScopeRefused);
     };
-    let Test::Passed = check::held(r, holder) else {
-        return Reading::Refused(Refusal::HolderDiffers);
+    let Test::Passed = check::held(r, request.holder) else {
+        return Err(Refusal::HolderDiffers);
     };
-    Reading::Granted(Answer::of(r))
+    Ok(Answer::of(r))
 }
 
 // What a reading leaves: where it is granted, the clock becomes now.
-fn resource_by(ledger: &mut [u8], time: u64, reading: Reading) -> Answer
+fn resource_by(ledger: &mut [u8], time: u64, reading: Result<Answer, Refusal>) -> Answer
     ensures { left result ledger.new ≡ resource_by reading ledger.old time }
 {
     match reading {
-        Reading::Granted(answer) => {
+        Ok(answer) => {
             set_clock(ledger, time);
             answer
         }
-        Reading::Refused(why) => Answer::refused(why),
+        Err(why) => Answer::refused(why),
     }
 }
 
-pub fn resource(
-    ledger: &mut [u8],
-    time: u64,
-    token: &[u8; 32],
-    presented: &[u8; 32],
-    scope: u32,
-    holder: u64,
-) -> Answer
-    ensures { left result ledger.new ≡ resource ledger.old time (record { token = token.now; presented = presented.now; scope = scope; holder = holder }) }
+pub fn resource(ledger: &mut [u8], time: u64, request: ResourceRequest) -> Answer
+    ensures { left result ledger.new ≡ resource ledger.old time (reading request.entry) }
 {
-    let reading = look(ledger, time, token, presented, scope, holder);
+    let reading = look(ledger, time, request);
     resource_by(ledger, time, reading)
 }

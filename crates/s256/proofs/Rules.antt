@@ -1,11 +1,9 @@
 -- What the rule says, and what its answer says.
 use Prim.Native.Nat.{ℕ}
-use native.Mathlib.Omega.{arith}
 use mathlib.Core.Path.{◌≡◌, refl, sym, ap, ◌∙◌}
 use mathlib.Core.Logic.{◌↔◌}
 use mathlib.Core.Bool.{Bool, true, false, true≢false}
 use mathlib.Core.List.{List}
-use Rattle.octets.specs.Parts.{same}
 use Rattle.octets.proofs.Parts.{same_eq, same_refl}
 use Rattle.octets.proofs.Tests.{false_of}
 use Rattle.forms.specs.Forms.{challenge_formed}
@@ -17,12 +15,6 @@ use Rattle.s256.specs.declared.Match.TheVariants.{Same, Differs}
 use Rattle.s256.proofs.Texts.{base64url_challenge}
 
 module _ (verifier challenge : List ℕ) where
-  -- the answer, from the digest, its text and the comparison
-  pub matching_is : {digest text : List ℕ} {b : Bool} → digest ≡ sha256 verifier → text ≡ base64url digest → b ≡ same text challenge
-      → match_if b ≡ matching verifier challenge
-  unfolding matching matches
-  matching_is d t b = rw (b, t, d)
-
   -- base64url without padding of SHA-256 of the verifier is the challenge
   pub matches_says : (matches verifier challenge ≡ true) ↔ (base64url (sha256 verifier) ≡ challenge)
   unfolding matches
@@ -34,7 +26,7 @@ module _ (verifier challenge : List ℕ) where
     where
       from : (b : Bool) → match_if b ≡ Same → b ≡ true
       from true e = refl
-      from false e = let z : ◌≡◌ {A = ℕ} 0 1 = cc in absurd (omega arith)
+      from false e = cc
 
   pub matching_differs : matching verifier challenge ≡ Differs → matches verifier challenge ≡ false
   unfolding matching
@@ -42,7 +34,7 @@ module _ (verifier challenge : List ℕ) where
     where
       from : (b : Bool) → match_if b ≡ Differs → b ≡ false
       from false e = refl
-      from true e = let z : ◌≡◌ {A = ℕ} 0 1 = cc in absurd (omega arith)
+      from true e = cc
 
   -- the answer is Same exactly where the text is the challenge
   pub same_says : (matching verifier challenge ≡ Same) ↔ (base64url (sha256 verifier) ≡ challenge)

@@ -8,18 +8,21 @@ ghost use Rattle.s256.specs.Rule.{matching};
 
 pub mod base64url;
 
+// What the check answers: an enum and no bool, as document 01 wants of each check.
 #[derive(Clone, Copy)]
 pub enum Match {
     Same,
     Differs,
 }
 
+#[tactic(auto, unfolding(crate::specs::Rule::matching, crate::specs::Rule::matches))]
 pub fn matches(verifier: &[u8], challenge: &[u8]) -> Match
     ensures { result ≡ matching verifier.now challenge.now }
 {
     let text = base64url::base64url(sha256::digest(verifier));
     if octets::part::same(&text, challenge) {
-        return Match::Same;
+        Match::Same
+    } else {
+        Match::Differs
     }
-    Match::Differs
 }

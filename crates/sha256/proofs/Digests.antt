@@ -1,10 +1,10 @@
 -- Laws of the digest (FIPS 180-4, section 6.2.2, the end).
-use Rattle.std.proofs.Common.{◌≡◌, ℕ, zero, suc, ◌+◌, ◌-◌, ◌*◌, ◌/◌, ◌%◌, ◌^◌, ◌<◌, ◌≤◌, List, [], ◌∷◌, ◌++◌, length, get_or, sym, refl, ap, ◌∙◌, ⊎_elim, add-one, arith, lit<, length-append, get_or-append-add, ext_get_or}
+use Rattle.std.proofs.Common.{◌≡◌, ℕ, zero, suc, ◌+◌, ◌-◌, ◌*◌, ◌/◌, ◌%◌, ◌^◌, ◌<◌, ◌≤◌, List, [], ◌∷◌, ◌++◌, length, get_or, sym, refl, ap, ◌∙◌, ⊎_elim, add-one, arith, lit<, length-append, get_or-append-add}
+use Rattle.std.specs.Int.{w32, to_be_bytes}
+use Rattle.std.specs.List.{flat_map}
 use lib.ListN.{get_or-append, get_or-eq_default}
-use Rattle.octets.specs.Lists.{tabulate}
 use Rattle.octets.specs.Numbers.{digits}
 use Rattle.octets.proofs.Numbers.{length_digits}
-use Rattle.octets.proofs.Tabulate.{length_tabulate, get_d_tabulate}
 use Rattle.octets.proofs.Tests.{lt_or_le}
 use Rattle.sha256.specs.Pad.{pad, blocks, block}
 use Rattle.sha256.specs.Hash.{added, compress, hash_value, joined, sha256}
@@ -17,8 +17,8 @@ unfolding joined
 length_joined [] = refl
 length_joined (w ∷ ws) = rw (length-append, length_digits, length_joined ws) (omega arith)
 
--- byte i of the words ws, as the code computes it
-abbrev pub byte_of : List ℕ → ℕ → ℕ
+-- byte i of the words ws
+abbrev byte_of : List ℕ → ℕ → ℕ
 byte_of ws i = get_or ws (i / 4) 0 / 2 ^ (8 * (3 - i % 4)) % 2 ^ 8
 
 get_or_joined : (ws : List ℕ) (i : ℕ) → i < 4 * length ws → get_or (joined ws) i 0 ≡ byte_of ws i
@@ -38,12 +38,25 @@ get_or_joined (w ∷ ws) i h =
     ∙ get_or-append-add (digits 4 w) (joined ws) (i - 4) 0 ∙ get_or_joined ws (i - 4) (omega arith) ∙ rw (q, r))
     (lt_or_le i 4)
 
-pub joined_table : (ws : List ℕ) (n : ℕ) → n ≡ 4 * length ws → tabulate (byte_of ws) n ≡ joined ws
-joined_table ws n e =
-    ext_get_or 0 _ _ (omega (arith, length_tabulate (byte_of ws) n, length_joined ws))
-    (λ i h.
-    let k : i < n = omega (arith, length_tabulate (byte_of ws) n) in
-    get_d_tabulate (byte_of ws) 0 n i k ∙ sym (get_or_joined ws i (omega arith)))
+-- the four bytes of a word
+digits_be : (w : ℕ) → digits 4 w ≡ to_be_bytes w32 w
+unfolding digits
+digits_be w =
+    let a : w / 256 / 256 / 256 ≡ w / 16777216 = omega arith in
+    let b : w / 256 / 256 ≡ w / 65536 = omega arith in
+    cc
+
+-- the bytes of each word, put together
+pub joined_be : (ws : List ℕ) (bs : List (List ℕ)) → length bs ≡ length ws
+    → ((i : ℕ) → i < length ws → get_or bs i [] ≡ to_be_bytes w32 (get_or ws i 0))
+    → flat_map (λ x. x) bs ≡ joined ws
+unfolding joined
+joined_be [] [] e h = refl
+joined_be [] (b ∷ bs) e h = absurd (omega arith)
+joined_be (w ∷ ws) [] e h = absurd (omega arith)
+joined_be (w ∷ ws) (b ∷ bs) e h =
+    let first : b ≡ digits 4 w = h 0 (omega arith) ∙ sym (digits_be w) in
+    rw (first, joined_be ws bs (omega arith) (λ i k. h (suc i) (omega arith)))
 
 -- ---- a hash value
 

@@ -1,12 +1,14 @@
 -- Laws of padding (FIPS 180-4, section 5.1.1).
-use Rattle.std.proofs.Common.{◌≡◌, ℕ, ◌+◌, ◌-◌, ◌*◌, ◌/◌, ◌%◌, ◌^◌, ◌<◌, ◌≤◌, List, [], ◌∷◌, ◌++◌, length, get_or, drop, sym, ap, ◌∙◌, ⊎_elim, append_assoc, eq-or-lt_of_le, arith, length-append, length-drop, drop_of_length-le, length-take, get_or-drop, get_or-take, get_or-append-add, ext_get_or}
+use Rattle.std.proofs.Common.{◌≡◌, ℕ, ◌+◌, ◌-◌, ◌*◌, ◌/◌, ◌%◌, ◌^◌, ◌<◌, ◌≤◌, List, [], ◌∷◌, ◌++◌, length, get_or, drop, sym, ap, ◌∙◌, ⊎_elim, append_assoc, eq-or-lt_of_le, arith, length-append, length-drop, drop_of_length-le, get_or-drop, get_or-take, get_or-append-add, ext_get_or}
 use lib.ListN.{get_or-replicate, get_or-append, get_or-eq_default}
 use lib.Seq.{get_or_at, take-append-le, drop-append-le}
+use Rattle.std.specs.Simd.{first_chunks}
 use Rattle.octets.specs.Numbers.{digits}
 use Rattle.octets.specs.Parts.{part, put, blank}
 use Rattle.octets.proofs.Numbers.{length_digits, digits_low}
 use Rattle.octets.proofs.Parts.{length_blank, length_laid, length_put, part_length, laid_in, laid_past, put_in, put_ahead, put_past}
 use Rattle.octets.proofs.Tests.{lt_or_le}
+use Rattle.sha256.proofs.Chunks.{get_or-first_chunks}
 use Rattle.sha256.specs.Pad.{zero_bytes, pad, blocks, block, marked, window}
 
 -- ---- how long
@@ -40,17 +42,17 @@ least_zero_bytes n k h = omega arith
 -- ---- the blocks that the message fills
 
 module _ (m : List ℕ) where
-  -- a block before the padding is the message's own, of 64 bytes; its end is counted from the message's start
-  pub pad_block : (k : ℕ) → 64 * k + 64 ≤ length m → part m (64 * k) (64 * k + 64 - 64 * k) ≡ block (pad m) k
+  -- a block before the padding is the message's own
+  pub pad_block : (k : ℕ) → 64 * k + 64 ≤ length m → part m (64 * k) 64 ≡ block (pad m) k
   unfolding pad
   pad_block k h =
-      let e : 64 * k + 64 - 64 * k ≡ 64 = omega arith in
       let a : 64 * k ≤ length m = omega arith in
       let b : 64 ≤ length (drop (64 * k) m) = simp length-drop (omega arith) in
-      rw (e, drop-append-le (64 * k) m _ a) (sym (take-append-le 64 (drop (64 * k) m) _ b))
+      rw (drop-append-le (64 * k) m _ a) (sym (take-append-le 64 (drop (64 * k) m) _ b))
 
-  pub length_block : (k : ℕ) → 64 * k + 64 ≤ length m → length (part m (64 * k) (64 * k + 64 - 64 * k)) ≡ 64
-  length_block k h = simp (length-take, length-drop) (omega arith)
+  -- the message cut into blocks
+  pub chunk_block : (k : ℕ) → k < length m / 64 → get_or (first_chunks 64 (length m / 64) m) k [] ≡ block (pad m) k
+  chunk_block k h = get_or-first_chunks 64 (length m / 64) k m h ∙ pad_block k (omega arith)
 
 -- ---- the blocks that hold padding, as the code fills them
 

@@ -1,10 +1,13 @@
 -- Laws of the message schedule (FIPS 180-4, section 6.2.2, step 1).
-use Rattle.std.proofs.Common.{◌≡◌, ℕ, zero, suc, ◌+◌, ◌-◌, ◌*◌, ◌<◌, ◌≤◌, List, [], ◌∷◌, ◌++◌, length, get_or, take, set, sym, refl, ap, ◌∙◌, add-zero, add_assoc, add-suc, add-one, arith, length-append, take_all, get_or-take}
+use Rattle.std.proofs.Common.{◌≡◌, ℕ, zero, suc, ◌+◌, ◌-◌, ◌*◌, ◌/◌, ◌<◌, ◌≤◌, List, [], ◌∷◌, ◌++◌, length, get_or, take, set, sym, refl, ap, ◌∙◌, add-zero, add-suc, arith, length-append, take_all, get_or-take}
 use lib.Seq.{take-append-le, get_or_at}
-use Rattle.octets.specs.Lists.{tabulate}
+use Rattle.std.specs.Int.{w32, from_be_bytes}
+use Rattle.std.specs.Simd.{first_chunks}
 use Rattle.octets.specs.Numbers.{num, num_from}
 use Rattle.octets.specs.Parts.{part}
-use Rattle.octets.proofs.Tabulate.{length_tabulate, get_d_tabulate, tabulate_part, grow}
+use Rattle.octets.proofs.Parts.{part_length}
+use Rattle.octets.proofs.Tabulate.{length_tabulate, get_d_tabulate, grow}
+use Rattle.sha256.proofs.Chunks.{get_or-first_chunks}
 use Rattle.sha256.specs.Word.{σ0, σ1, sum32}
 use Rattle.sha256.specs.Pad.{word_at}
 use Rattle.sha256.specs.Schedule.{next, words, schedule, W}
@@ -74,15 +77,28 @@ W-later b t h k = W-next b t h k
 -- ---- for the code
 
 -- the four bytes of a word
-pub word_bytes : (b : List ℕ) (i : ℕ) → i + 4 ≤ length b
-    → num (part b i 4) ≡ ((get_or b i 0 * 256 + get_or b (i + 1) 0) * 256 + get_or b (i + 2) 0) * 256 + get_or b (i + 3) 0
-unfolding num num_from tabulate
-word_bytes b i h = rw (← tabulate_part b 0 i 4 h, add-zero) (omega arith)
+num_be : (xs : List ℕ) → length xs ≡ 4 → from_be_bytes w32 xs ≡ num xs
+unfolding num num_from
+num_be [] h = absurd (omega arith)
+num_be (a ∷ []) h = absurd (omega arith)
+num_be (a ∷ b ∷ []) h = absurd (omega arith)
+num_be (a ∷ b ∷ c ∷ []) h = absurd (omega arith)
+num_be (a ∷ b ∷ c ∷ d ∷ []) h = omega arith
+num_be (a ∷ b ∷ c ∷ d ∷ x ∷ xs) h = absurd (omega arith)
+
+-- a word, where its block is cut into sixteen
+pub chunk_word : (b : List ℕ) (cs : List (List ℕ)) (t : ℕ) → cs ≡ first_chunks 4 (length b / 4) b → length b ≡ 64 → t < 16
+    → from_be_bytes w32 (get_or cs t []) ≡ word_at b t
+chunk_word b cs t c e h =
+    ap (λ (x : List (List ℕ)). from_be_bytes w32 (get_or x t [])) c ∙ ap (from_be_bytes w32) (get_or-first_chunks 4 (length b / 4) t b (omega arith))
+    ∙ num_be (part b (4 * t) 4) (part_length b (4 * t) 4 (omega arith))
 
 -- one more word, at its place in an array that holds the words before it
-pub grow_words : (b w : List ℕ) (j : ℕ) → 16 + j < length w → take (16 + j) w ≡ words b j
-    → take (16 + (j + 1)) (set w (16 + j) (next w (16 + j))) ≡ words b (j + 1)
+pub grow_words : (b w : List ℕ) (t : ℕ) → 16 ≤ t → t < length w → take t w ≡ words b (t - 16)
+    → take (t + 1) (set w t (next w t)) ≡ words b (t + 1 - 16)
 unfolding words
-grow_words b w j k h =
-    rw (← add_assoc 16 j 1, grow w (16 + j) (next w (16 + j)) h k, add-one j)
-    (ap (λ x. words b j ++ (x ∷ [])) (sym (next_take w (16 + j) (omega arith)) ∙ ap (λ ws. next ws (16 + j)) h))
+grow_words b w t l k h =
+    let e : t + 1 - 16 ≡ suc (t - 16) = omega arith in
+    let f : 16 + (t - 16) ≡ t = omega arith in
+    rw (e, f, grow w t (next w t) h k)
+    (ap (λ x. words b (t - 16) ++ (x ∷ [])) (sym (next_take w t l) ∙ ap (λ ws. next ws t) h))

@@ -2,10 +2,11 @@
 ghost use Rattle.std.specs.Prelude.{◌≡◌, ◌<◌};
 ghost use Rattle.sha256.specs.Pad.{pad, blocks, block, marked, window};
 
-use octets::number::bytes64;
+use octets::number::Number;
 use octets::part::{copy, from, put};
 
 // The 64 bytes of a message from index a on, zeros behind its end.
+#[tactic(auto, unfolding(octets::specs::Parts::blank))]
 fn tail(m: &[u8], a: usize) -> [u8; 64]
     ensures { result ≡ window m.now a }
 {
@@ -15,6 +16,7 @@ fn tail(m: &[u8], a: usize) -> [u8; 64]
 }
 
 // The same of the message and its mark.
+#[tactic(auto, using(crate::proofs::Padding::mark_put, crate::proofs::Padding::mark_none))]
 fn marked(m: &[u8], a: usize) -> [u8; 64]
     ensures { result ≡ window (marked m.now) a }
 {
@@ -28,6 +30,7 @@ fn marked(m: &[u8], a: usize) -> [u8; 64]
 }
 
 // The block k of the padded message: the length stands at the end of the last one.
+#[tactic(auto, using(crate::proofs::Padding::blocks_of, crate::proofs::Padding::block_inner, crate::proofs::Padding::block_last))]
 pub fn block(m: &[u8], k: usize) -> [u8; 64]
     requires { k < blocks m.now }
     ensures { result ≡ block (pad m.now) k }
@@ -36,11 +39,12 @@ pub fn block(m: &[u8], k: usize) -> [u8; 64]
     if k + 1 < blocks(m) {
         return b;
     }
-    put(&mut b, 56, &bytes64((m.len() as u64) << 3));
+    put(&mut b, 56, &((m.len() as u64) << 3).bytes());
     b
 }
 
 // How many blocks the padded message has.
+#[tactic(auto, using(crate::proofs::Padding::blocks_of))]
 pub fn blocks(m: &[u8]) -> usize
     ensures { result ≡ blocks m.now }
 {

@@ -1,13 +1,6 @@
 // The operations on 32-bit words (FIPS 180-4, section 4.1.2).
-ghost use Rattle.std.specs.Prelude.{◌≡◌, ◌<◌};
-ghost use Rattle.sha256.specs.Word.{ROTR, Ch, Maj, Σ0, Σ1, σ0, σ1};
-
-fn rotr(x: u32, n: u32) -> u32
-    requires { (0 < n) × (n < 32) }
-    ensures { result ≡ ROTR n x }
-{
-    (x >> n) | (x << (32 - n))
-}
+ghost use Rattle.std.specs.Prelude.{◌≡◌};
+ghost use Rattle.sha256.specs.Word.{Ch, Maj, Σ0, Σ1, σ0, σ1};
 
 pub fn ch(x: u32, y: u32, z: u32) -> u32
     ensures { result ≡ Ch x y z }
@@ -21,26 +14,27 @@ pub fn maj(x: u32, y: u32, z: u32) -> u32
     (x & y) ^ (x & z) ^ (y & z)
 }
 
+// The standard names these four, each with its places: one function with the places as const parameters would still need all four names.
 pub fn big0(x: u32) -> u32
     ensures { result ≡ Σ0 x }
 {
-    rotr(x, 2) ^ rotr(x, 13) ^ rotr(x, 22)
+    x.rotate_right(2) ^ x.rotate_right(13) ^ x.rotate_right(22)
 }
 
 pub fn big1(x: u32) -> u32
     ensures { result ≡ Σ1 x }
 {
-    rotr(x, 6) ^ rotr(x, 11) ^ rotr(x, 25)
+    x.rotate_right(6) ^ x.rotate_right(11) ^ x.rotate_right(25)
 }
 
 pub fn small0(x: u32) -> u32
     ensures { result ≡ σ0 x }
 {
-    rotr(x, 7) ^ rotr(x, 18) ^ (x >> 3)
+    x.rotate_right(7) ^ x.rotate_right(18) ^ (x >> 3)
 }
 
 pub fn small1(x: u32) -> u32
     ensures { result ≡ σ1 x }
 {
-    rotr(x, 17) ^ rotr(x, 19) ^ (x >> 10)
+    x.rotate_right(17) ^ x.rotate_right(19) ^ (x >> 10)
 }

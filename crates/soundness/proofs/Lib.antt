@@ -1,4 +1,2 @@
--- Laws of the rules by state, of the short cuts, and of a redirect's place in its record.
-mod Rules
+-- The short cuts of the pairwise searches miss nothing.
 mod ShortCuts
-mod Redirects

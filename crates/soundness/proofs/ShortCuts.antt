@@ -1,30 +1,22 @@
 -- The short cuts of the pairwise searches miss nothing.
-use Prim.Native.Nat.{ℕ, ◌+◌}
-use native.Mathlib.Omega.{arith}
-use mathlib.Core.Path.{◌≡◌, refl, sym, ap, ◌∙◌}
-use mathlib.Core.Bool.{Bool, true, false, not, ◌||◌, and-false, true≢false}
-use mathlib.Core.List.{List, [], ◌∷◌}
+use Prim.Native.Nat.{ℕ, ◌+◌, ◌<◌}
+use mathlib.Core.Path.{◌≡◌, refl, sym, ap}
+use mathlib.Core.Bool.{Bool, true, false, not, and-false}
+use mathlib.Core.List.{List, []}
 use lib.Dec.{eqb}
-use lib.ListN.{drop}
+use Rattle.std.proofs.lemmas.Bool.{or_parts}
+use lib.ListN.{length, get_or, drop}
 use lib.Seq.{take-add, drop-drop}
 use borrow.Author.Tests.{eqb-false}
-use Rattle.octets.specs.Lists.{some}
+use Rattle.octets.specs.Lists.{apart}
 use Rattle.octets.specs.Parts.{part, zeros, same}
+use Rattle.octets.proofs.Lists.{apart_miss, none_of_inside}
 use Rattle.octets.proofs.Parts.{same_eq, zeros_append}
 use Rattle.octets.proofs.Tests.{false_of}
-use Rattle.ledger.specs.Fields.{slots, records, value_span, token_span, value, token, in_state}
+use Rattle.ledger.specs.Fields.{value_span, token_span, value, token, in_state}
 use Rattle.ledger.specs.Sound.{holds, meets, same_grant}
-use Rattle.soundness.specs.Quick.{lead, token_lead, near, idle, partner}
-use Rattle.ledger.proofs.Loops.{some_rec_end}
+use Rattle.soundness.specs.Quick.{lead, token_lead, near}
 use Rattle.ledger.specs.declared.state.State.TheVariants.{Free}
-
-or_l : (a b : Bool) → (a || b) ≡ false → a ≡ false
-or_l true b e = absurd (true≢false e)
-or_l false b e = refl
-
-or_r : (a b : Bool) → (a || b) ≡ false → b ≡ false
-or_r true b e = absurd (true≢false e)
-or_r false b e = e
 
 lead_apart : (v w : List ℕ) → eqb (lead w) (lead v) ≡ false → same v w ≡ false
 lead_apart v w e = false_of _ (λ h. eqb-false (lead w) (lead v) e (ap lead (sym (same_eq v w h))))
@@ -52,36 +44,30 @@ token_none r s b d = go (zeros (token r)) refl
 pub near_none : (r s : List ℕ) → near (lead (value r)) (token_lead r) s ≡ false → meets r s ≡ false
 unfolding near meets
 near_none r s e =
-    let a = or_l (eqb (lead (value s)) (lead (value r))) _ e in
-    let e2 = or_r (eqb (lead (value s)) (lead (value r))) _ e in
-    let b = or_l (eqb (lead (value s)) (token_lead r)) _ e2 in
-    let e3 = or_r (eqb (lead (value s)) (token_lead r)) _ e2 in
-    let c = or_l (eqb (lead (token s)) (lead (value r))) _ e3 in
-    let d = or_r (eqb (lead (token s)) (lead (value r))) _ e3 in
+    let (a, bcd) = or_parts _ _ e in
+    let (b, cd) = or_parts _ _ bcd in
+    let (c, d) = or_parts _ _ cd in
     rw (holds_none (value r) s a c) (token_none r s b d)
 
--- a record that holds nothing meets none
-pub idle_none : (r : List ℕ) → idle r ≡ true → (s : List ℕ) → meets r s ≡ false
-unfolding idle meets
-idle_none r e s =
-    let a = value_span.place in
-    let n = value_span.width in
-    let m = token_span.width in
-    let z = zeros_append (part r a n) (part (drop a r) n m) (rw (take-add n m (drop a r)) at e) in
-    rw (holds_zero (value r) s z.0, holds_zero (token r) s (rw (drop-drop n a r) at z.1))
+-- ---- where a record clashes with none, it is passed over and nothing is missed
 
--- a free record has no number to clash with
-pub free_none : (r : List ℕ) → in_state Free r ≡ true → (s : List ℕ) → same_grant r s ≡ false
-unfolding same_grant
-free_none r e s = rw e
+module _ (l : List (List ℕ)) (i : ℕ) (inside : i < length l) where
+  passed : (clash : List ℕ → List ℕ → Bool) → ((s : List ℕ) → clash (get_or l i []) s ≡ false) → apart clash (drop i l) ≡ apart clash (drop (i + 1) l)
+  passed clash none = apart_miss clash l [] i inside (none_of_inside (clash (get_or l i [])) [] (drop (i + 1) l) (λ j h. none _))
 
--- where a record is passed over, nothing is missed
-pub row_start : (q : List ℕ → Bool) (l : List ℕ) (i n : ℕ) (b : Bool) → n ≡ slots l → (b ≡ true → (s : List ℕ) → q s ≡ false)
-    → some q (drop (i + 1) (records l)) ≡ some q (drop (partner b i n) (records l))
-unfolding partner
-row_start q l i n true e none = none_in (drop (i + 1) (records l)) ∙ sym (some_rec_end q l n (omega arith))
-  where
-    none_in : (xs : List (List ℕ)) → some q xs ≡ false
-    none_in [] = refl
-    none_in (x ∷ xs) = rw (none refl x, none_in xs)
-row_start q l i n false e none = refl
+  -- a free record has no number to clash with
+  pub free_passed : in_state Free (get_or l i []) ≡ true → apart same_grant (drop i l) ≡ apart same_grant (drop (i + 1) l)
+  unfolding same_grant
+  free_passed e = passed same_grant (λ s. rw e)
+
+  -- a record that holds nothing meets none
+  pub idle_passed : zeros (part (get_or l i []) value_span.place (value_span.width + token_span.width)) ≡ true
+      → apart meets (drop i l) ≡ apart meets (drop (i + 1) l)
+  unfolding meets
+  idle_passed e =
+      let r = get_or l i [] in
+      let a = value_span.place in
+      let n = value_span.width in
+      let m = token_span.width in
+      let z = zeros_append (part r a n) (part (drop a r) n m) (rw (take-add n m (drop a r)) at e) in
+      passed meets (λ s. rw (holds_zero (value r) s z.0, holds_zero (token r) s (rw (drop-drop n a r) at z.1)))

@@ -1,7 +1,7 @@
 -- Short cuts of the pairwise searches: what private functions answer; no sentence of document 01 rests on them.
-use Rattle.std.specs.Prelude.{ℕ, ◌+◌, Bool, ◌||◌, cond, List, eqb, get_or}
-use Rattle.octets.specs.Parts.{part, zeros}
-use Rattle.ledger.specs.Fields.{value_span, token_span, value, token}
+use Rattle.std.specs.Prelude.{ℕ, Bool, ◌||◌, cond, List, eqb, get_or}
+use Rattle.octets.specs.Parts.{zeros}
+use Rattle.ledger.specs.Fields.{value, token}
 
 -- the first byte: where these differ, so do the values
 unfoldable pub lead : List ℕ → ℕ
@@ -14,11 +14,3 @@ token_lead r = cond (zeros (token r)) (lead (value r)) (lead (token r))
 -- s holds a value that begins as one of r's does
 unfoldable pub near : ℕ → ℕ → List ℕ → Bool
 near p q s = eqb (lead (value s)) p || (eqb (lead (value s)) q || (eqb (lead (token s)) p || eqb (lead (token s)) q))
-
--- a record that holds nothing
-unfoldable pub idle : List ℕ → Bool
-idle r = zeros (part r value_span.place (value_span.width + token_span.width))
-
--- the first of n places to compare place i with: none where it has nothing to compare
-unfoldable pub partner : Bool → ℕ → ℕ → ℕ
-partner b i n = cond b n (i + 1)

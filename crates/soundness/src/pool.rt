@@ -1,151 +1,129 @@
 // What soundness asks of pairs of records: grant numbers distinct, no value or token twice.
-ghost use Rattle.std.specs.Prelude.{◌≡◌, ◌≤◌, ◌<◌, length};
+ghost use Rattle.std.specs.Prelude.{◌≡◌};
 ghost use Rattle.octets.specs.Lists.{every, apart};
-ghost use Rattle.ledger.specs.Limits.{record_size};
-ghost use Rattle.ledger.specs.Fields.{records, value};
+ghost use Rattle.ledger.specs.Fields.{value};
 ghost use Rattle.ledger.specs.Sound.{same_grant, meets, own_apart};
-ghost use Rattle.soundness.specs.Quick.{lead, token_lead, near, partner};
+ghost use Rattle.soundness.specs.Quick.{lead, token_lead, near};
 
-use super::place::whole;
 use ledger::field::Field;
 use ledger::pool::holds;
-use ledger::record::{grant, slots, token, value};
+use ledger::record::{Record, grant, token, value};
 use ledger::state::{State, is_in};
 use octets::part::{is_zero, same};
 
-fn meets(r: &[u8], s: &[u8]) -> bool
+// Asked only where two leads agree, which is rare: out of the way of the search.
+#[cold]
+#[tactic(auto, unfolding(ledger::specs::Sound::meets))]
+fn meets(r: &Record, s: &Record) -> bool
     ensures { result ≡ meets r.now s.now }
 {
-    if holds(value(r), s) {
-        return true;
-    }
-    holds(token(r), s)
+    holds(value(r), s) || holds(token(r), s)
 }
 
-fn is_own_apart(r: &[u8]) -> bool
-    requires { length r.now ≡ record_size }
+#[tactic(auto, unfolding(ledger::specs::Sound::own_apart))]
+fn is_own_apart(r: &Record) -> bool
     ensures { result ≡ own_apart r.now }
 {
-    let v = &r[Field::VALUE..Field::TOKEN];
-    if is_zero(v) {
-        return true;
-    }
-    !same(v, &r[Field::TOKEN..Field::KEY])
+    is_zero(value(r)) || !same(value(r), token(r))
 }
 
-pub fn own_apart(l: &[u8]) -> bool
-    ensures { result ≡ every own_apart (records l.now) }
+pub fn own_apart(records: &[Record]) -> bool
+    ensures { result ≡ every own_apart records.now }
 {
-    let n = slots(l);
-    let mut k = 0;
-    while k < n {
-        if !is_own_apart(whole(l, k)) {
-            return false;
-        }
-        k += 1;
-    }
-    true
+    records.iter().all(is_own_apart)
 }
 
-// A record with nothing to compare is passed over.
-fn partner(idle: bool, i: usize, n: usize) -> usize
-    requires { i < n }
-    ensures { (result ≡ partner idle i n) × (i < result) × (result ≤ n) }
-{
-    if idle { n } else { i + 1 }
-}
-
-fn is_same_grant(r: &[u8], s: &[u8]) -> bool
+#[tactic(auto, unfolding(ledger::specs::Sound::same_grant))]
+fn is_same_grant(r: &Record, s: &Record) -> bool
     ensures { result ≡ same_grant r.now s.now }
 {
-    if grant(r) != grant(s) {
-        return false;
-    }
-    if is_in(r, State::Free) {
-        return false;
-    }
-    !is_in(s, State::Free)
+    grant(r) == grant(s) && !is_in(r, State::Free) && !is_in(s, State::Free)
 }
 
-// Grant numbers are distinct: each pair of records is looked at, up to the first clash.
-pub fn grants_apart(l: &[u8]) -> bool
-    ensures { result ≡ apart same_grant (records l.now) }
+// Grant numbers are distinct: each pair of records is looked at, up to the first clash. A free record has no number to compare.
+#[tactic(auto, using(crate::proofs::ShortCuts::free_passed))]
+pub fn grants_apart(records: &[Record]) -> bool
+    ensures { result ≡ apart same_grant records.now }
 {
-    let n = slots(l);
     let mut clash = false;
-    let mut i = 0;
-    'search: while i < n {
-        let r = whole(l, i);
-        let mut j = partner(is_in(r, State::Free), i, n);
-        while j < n {
-            if is_same_grant(r, whole(l, j)) {
+    'search: for (i, r) in records.iter().enumerate() {
+        if is_in(r, State::Free) {
+            continue;
+        }
+        for s in &records[i + 1..] {
+            if is_same_grant(r, s) {
                 clash = true;
                 break 'search;
             }
-            j += 1;
         }
-        i += 1;
     }
     !clash
 }
 
+#[tactic(auto, unfolding(crate::specs::Quick::lead))]
 fn lead(v: &[u8]) -> u8
-    requires { 0 < length v.now }
     ensures { result ≡ lead v.now }
 {
-    v[0]
+    v.first().copied().unwrap_or(0)
 }
 
-fn token_lead(r: &[u8]) -> u8
-    requires { length r.now ≡ record_size }
-    ensures { result ≡ token_lead r.now }
-{
-    if is_zero(&r[Field::TOKEN..Field::KEY]) {
-        return lead(&r[Field::VALUE..Field::TOKEN]);
+// A record beside the leads of what it holds, by which it is looked for in the others: of its value, and of its token or the value's once more.
+#[derive(Clone, Copy)]
+struct Held<'a> {
+    r: &'a Record,
+    first: u8,
+    second: u8,
+    ghost first_so: { first ≡ lead (value r.now) },
+    ghost second_so: { second ≡ token_lead r.now },
+}
+
+impl<'a> Held<'a> {
+    #[tactic(auto, unfolding(crate::specs::Quick::token_lead))]
+    fn of(r: &'a Record) -> Held<'a>
+        ensures { result.r.now ≡ r.now }
+    {
+        let first = lead(value(r));
+        let held = token(r);
+        let second = if is_zero(held) { first } else { lead(held) };
+        Held { r, first, second }
     }
-    lead(&r[Field::TOKEN..Field::KEY])
-}
 
-fn is_near(p: u8, q: u8, s: &[u8]) -> bool
-    requires { length s.now ≡ record_size }
-    ensures { result ≡ near p q s.now }
-{
-    let v = lead(&s[Field::VALUE..Field::TOKEN]);
-    let t = lead(&s[Field::TOKEN..Field::KEY]);
-    (v == p) | ((v == q) | ((t == p) | (t == q)))
-}
-
-// Whether two records meet, p and q being the leads of what the first one holds.
-fn is_meeting(r: &[u8], p: u8, q: u8, s: &[u8]) -> bool
-    requires { (length s.now ≡ record_size) × (p ≡ lead (value r.now)) × (q ≡ token_lead r.now) }
-    ensures { result ≡ meets r.now s.now }
-{
-    if !is_near(p, q, s) {
-        return false;
+    #[tactic(auto, unfolding(crate::specs::Quick::near))]
+    fn is_near(&self, s: &Record) -> bool
+        ensures { result ≡ near self.now.first self.now.second s.now }
+    {
+        let v = lead(value(s));
+        let t = lead(token(s));
+        // All four at once: with a way out after each, the search of a full ledger takes a quarter longer.
+        (v == self.first) | (v == self.second) | (t == self.first) | (t == self.second)
     }
-    meets(r, s)
+
+    #[tactic(auto, using(crate::proofs::ShortCuts::near_none))]
+    fn meets(&self, s: &Record) -> bool
+        ensures { result ≡ meets self.now.r.now s.now }
+    {
+        self.is_near(s) && meets(self.r, s)
+    }
 }
 
-// No value or token stands twice: each pair of records is looked at, up to the first clash.
-pub fn values_apart(l: &[u8]) -> bool
-    ensures { result ≡ apart meets (records l.now) }
+// No value or token stands twice: each pair of records is looked at, up to the first clash. A record that holds nothing meets none.
+// A search of its own: its rows are made ready, those of the grants are not, and one that is generic in row and test is no plainer.
+#[tactic(auto, using(crate::proofs::ShortCuts::idle_passed))]
+pub fn values_apart(records: &[Record]) -> bool
+    ensures { result ≡ apart meets records.now }
 {
-    let n = slots(l);
     let mut clash = false;
-    let mut i = 0;
-    'search: while i < n {
-        let r = whole(l, i);
-        let p = lead(&r[Field::VALUE..Field::TOKEN]);
-        let q = token_lead(r);
-        let mut j = partner(is_zero(&r[Field::VALUE..Field::KEY]), i, n);
-        while j < n {
-            if is_meeting(r, p, q, whole(l, j)) {
+    'search: for (i, r) in records.iter().enumerate() {
+        if is_zero(&r[Field::VALUE..Field::KEY]) {
+            continue;
+        }
+        let held = Held::of(r);
+        for s in &records[i + 1..] {
+            if held.meets(s) {
                 clash = true;
                 break 'search;
             }
-            j += 1;
         }
-        i += 1;
     }
     !clash
 }

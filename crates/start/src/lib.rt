@@ -15,7 +15,7 @@ pub fn start(ledger: &mut [u8]) -> u8
     ensures { left result ledger.new ≡ start ledger.old }
 {
     let Size::Right = soundness::check_size(ledger) else {
-        return Refusal::LedgerUnsound.number();
+        return u8::from(Refusal::LedgerUnsound);
     };
     clear(ledger);
     set_next(ledger, 1);

@@ -4,13 +4,12 @@ use native.Mathlib.Omega.{arith}
 use mathlib.Core.Path.{◌≡◌, refl, sym, ap, ◌∙◌}
 use mathlib.Core.Logic.{⊎_elim}
 use mathlib.Core.Bool.{Bool, true}
-use mathlib.Core.List.{List, [], ◌∷◌, ◌++◌, append_assoc, append-nil}
+use mathlib.Core.List.{List, [], ◌∷◌, ◌++◌, append_assoc}
 use lib.Dec.{leb}
-use lib.ListN.{length, get_or, take, drop, set, length-append, length-drop, length-set, drop_of_length-le, get_or-append}
+use lib.ListN.{length, get_or, take, drop, set, length-append, length-drop, length-set, get_or-append}
 use lib.Seq.{take-suc, take_all, drop-cons, drop-set-lt, get_or-set_same}
 use borrow.Author.Tests.{lt-ltb, le-ltb, le-leb, leb-true}
 use Rattle.octets.specs.Lists.{every}
-use Rattle.octets.specs.Parts.{part, put}
 use Rattle.octets.proofs.Lists.{every_at}
 use Rattle.octets.proofs.Tests.{both, lt_or_le}
 use Rattle.texts.specs.Decimal.{is_decimal, value_from, value, decimal_in, decimal, TheDigits, decimal_most}
@@ -175,17 +174,6 @@ pub record Spelled (n : ℕ) (t : List ℕ) (at rest : ℕ) : Type 0 where
   pub fits : rest < 10 ^ at
   pub goes : decimal n ≡ decimal rest ++ drop at t
 
-pub spelled_none : (n : ℕ) (t : List ℕ) → n < 2 ^ 64 → length t ≡ decimal_most → Spelled n t decimal_most n
-spelled_none n t h l =
-    let e : length t ≤ decimal_most = omega arith in
-    record {
-      some = omega arith;
-      within = omega arith;
-      sized = l;
-      fits = omega arith;
-      goes = sym (append-nil (decimal n)) ∙ ap (λ (s : List ℕ). decimal n ++ s) (sym (drop_of_length-le t e));
-    }
-
 fewer : (a r : ℕ) → 10 ≤ r → r < 10 ^ a → (1 < a) × (r / 10 < 10 ^ (a - 1))
 fewer zero r h k = absurd (omega arith)
 fewer (suc zero) r h k = absurd (omega arith)
@@ -217,11 +205,3 @@ module _ (n : ℕ) (t : List ℕ) (at rest v : ℕ) (s : Spelled n t at rest) wh
       let k : length (decimal n) ≡ length (set t (at - 1) v) - (at - 1) = sym (ap length d) ∙ length-drop (at - 1) (set t (at - 1) v) in
       let j = length-set t (at - 1) v in
       (omega arith, d)
-
--- what is written is put into an output
-pub put_digits : (n a : ℕ) (l t : List ℕ) (r : ℕ) {y : List ℕ} → (r + length (decimal n) ≡ decimal_most) × (drop r t ≡ decimal n)
-    → y ≡ put l a (part t r (decimal_most - r)) → (decimal_most - r ≡ length (decimal n)) × (y ≡ put l a (decimal n))
-put_digits n a l t r {y} s e =
-    let k = s.0 in
-    let m : length (decimal n) ≤ decimal_most - r = omega arith in
-    (omega arith, e ∙ ap (λ (x : List ℕ). put l a (take (decimal_most - r) x)) s.1 ∙ ap (put l a) (take_all (decimal_most - r) (decimal n) m))

@@ -2,8 +2,10 @@
 use Prim.Native.Nat.{ℕ, ◌-◌, ◌%◌, ◌≤◌, ◌<◌}
 use native.Mathlib.Omega.{arith}
 use mathlib.Core.Path.{◌≡◌, refl}
-use mathlib.Core.Bool.{Bool, true, false, ◌||◌, and-false}
-use mathlib.Core.List.{List}
+use mathlib.Core.Bool.{Bool, true, false, and-false, or_assoc}
+use mathlib.Core.List.{List, [], ◌∷◌}
+use Rattle.std.specs.Char.{is_ascii_hexdigit}
+use Rattle.std.specs.List.{list_all}
 use lib.Dec.{eqb, leb}
 use lib.ListN.{length, get_or}
 use borrow.Author.Tests.{leb-true, le-leb, lt-leb, ne_eqb, eq-eqb}
@@ -27,49 +29,13 @@ module _ (a b c : ℕ) where
 
 -- whether a character is a digit, by where it stands
 module _ (c : ℕ) where
-  pub before_digits : c < 48 → is_digit c ≡ false
-  unfolding is_digit
-  before_digits h = rw (below 48 57 c h, below 65 70 c (omega arith), below 97 102 c (omega arith))
-
   pub at_digits : 48 ≤ c → c ≤ 57 → is_digit c ≡ true
   unfolding is_digit
   at_digits h k = rw (inside 48 57 c h k)
 
-  pub before_upper : 57 < c → c < 65 → is_digit c ≡ false
-  unfolding is_digit
-  before_upper h k = rw (above 48 57 c h, below 65 70 c k, below 97 102 c (omega arith))
-
-  pub at_upper : 65 ≤ c → c ≤ 70 → is_digit c ≡ true
-  unfolding is_digit
-  at_upper h k = rw (above 48 57 c (omega arith), inside 65 70 c h k)
-
-  pub before_lower : 70 < c → c < 97 → is_digit c ≡ false
-  unfolding is_digit
-  before_lower h k = rw (above 48 57 c (omega arith), above 65 70 c h, below 97 102 c k)
-
   pub from_lower : 97 ≤ c → is_digit c ≡ leb c 102
   unfolding is_digit
   from_lower h = rw (above 48 57 c (omega arith), above 65 70 c (omega arith), le-leb 97 c h)
-
--- a digit is in one of the three places
-cases : (p q r : Bool) → (p || (q || r)) ≡ true → {P : Type 0} → (p ≡ true → P) → (q ≡ true → P) → (r ≡ true → P) → P
-cases true q r e f g h = f refl
-cases false true r e f g h = g refl
-cases false false r e f g h = h e
-
-pub record Placed (c : ℕ) : Type 0 where
-  pub least : 48 ≤ c
-  pub most : c ≤ 102
-  pub upper : 57 < c → 65 ≤ c
-  pub lower : 70 < c → 97 ≤ c
-
-pub placed : (c : ℕ) → is_digit c ≡ true → Placed c
-unfolding is_digit
-placed c e =
-    cases (between 48 57 c) (between 65 70 c) (between 97 102 c) e
-    (λ p. let w = within 48 57 c p in record { least = omega arith; most = omega arith; upper = λ h. absurd (omega arith); lower = λ h. absurd (omega arith) })
-    (λ p. let w = within 65 70 c p in record { least = omega arith; most = omega arith; upper = λ h. omega arith; lower = λ h. absurd (omega arith) })
-    (λ p. let w = within 97 102 c p in record { least = omega arith; most = omega arith; upper = λ h. omega arith; lower = λ h. omega arith })
 
 -- what it stands for
 module _ (c : ℕ) where
@@ -96,3 +62,12 @@ hex_odd l n = rw (ne_eqb (length l % 2) 0 n)
 pub hex_of : (l : List ℕ) → length l % 2 ≡ 0 → is_hex l ≡ every is_digit l
 unfolding is_hex
 hex_of l e = rw (eq-eqb (length l % 2) 0 e)
+
+-- the library's test of all, and its test of a digit
+pub all_every : {A : Type 0} (p q : A → Bool) → ((x : A) → p x ≡ q x) → (l : List A) → list_all p l ≡ every q l
+all_every p q e [] = refl
+all_every p q e (x ∷ xs) = rw (e x, all_every p q e xs)
+
+pub hexdigit_is : (c : ℕ) → is_ascii_hexdigit c ≡ is_digit c
+unfolding is_digit
+hexdigit_is c = or_assoc (between 48 57 c) (between 65 70 c) (between 97 102 c)

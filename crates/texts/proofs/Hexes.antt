@@ -2,7 +2,7 @@
 use Prim.Native.Nat.{ℕ, zero, suc, ◌+◌, ◌*◌, ◌/◌, ◌%◌, ◌≤◌, ◌<◌}
 use native.Mathlib.Omega.{arith}
 use mathlib.Core.Path.{◌≡◌, refl, sym, ap, ◌∙◌}
-use mathlib.Core.Bool.{true, false}
+use mathlib.Core.Bool.{true}
 use mathlib.Core.List.{List, [], ◌∷◌}
 use lib.ListN.{length, get_or}
 use borrow.Author.Tests.{lt-ltb, le-ltb}
@@ -97,7 +97,3 @@ hex_injective bs cs o p e = sym (decoded_hex bs o) ∙ ap decoded e ∙ decoded_
 pub over_hex : (t s : List ℕ) → is_hex t ≡ true → decoded_over t s ≡ laid (decoded t) s
 unfolding decoded_over
 over_hex t s e = rw e
-
-pub over_other : (t s : List ℕ) → is_hex t ≡ false → decoded_over t s ≡ s
-unfolding decoded_over
-over_other t s e = rw e

@@ -2,3 +2,4 @@
 pub mod Hex
 pub mod Base64url
 pub mod Decimal
+pub mod Spelling

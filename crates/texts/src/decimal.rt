@@ -26,20 +26,18 @@ fn glyph(d: u64) -> u8
 }
 
 // The digits at the end of a text, the last first; answers where they begin.
-fn spell(text: &mut [u8], n: u64) -> usize
-    requires { length text.old ≡ decimal_most }
+fn spell(text: &mut [u8; Decimal::MOST], n: u64) -> usize
     ensures { (result + length (decimal n) ≡ decimal_most) × (drop result text.new ≡ decimal n) }
 {
-    let mut at = Decimal::MOST;
     let mut rest = n;
-    while 10 <= rest {
-        at -= 1;
+    for at in (0..Decimal::MOST).rev() {
         text[at] = glyph(rest % 10);
-        rest = rest / 10;
+        if rest < 10 {
+            return at;
+        }
+        rest /= 10;
     }
-    at -= 1;
-    text[at] = glyph(rest);
-    at
+    unreachable!()
 }
 
 // The digits of a number, over the output from a place on.

@@ -5,4 +5,4 @@
 pub mod base64url;
 pub mod decimal;
 pub mod hex;
-mod room;
+mod spelling;

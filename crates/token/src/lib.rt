@@ -8,17 +8,17 @@ ghost use Rattle.ledger.specs.Fields.{rec, slots, challenge};
 ghost use Rattle.ledger.specs.Write.{redeemed};
 ghost use Rattle.desk.specs.Answers.{answer_of};
 ghost use Rattle.desk.specs.Outcome.{left};
+ghost use Rattle.desk.specs.Requests.{redeeming};
 ghost use Rattle.desk.specs.Token.{rewritten, ended, token};
 ghost use Rattle.s256.specs.Rule.{matching};
 
-use clients::known::Known;
 use clients::table::Table;
 use desk::answer::{Answer, Refusal};
 use desk::check;
 use desk::check::Test;
+use desk::request::TokenRequest;
 use forms::{Form, Verifier};
 use ledger::clock::{Timing, set_clock};
-use ledger::find::Found;
 use ledger::limit::{Ledger, Token};
 use ledger::pool::Value;
 use ledger::record::{Life, address, at, check_life};
@@ -68,18 +68,8 @@ fn token_at(ledger: &mut [u8], k: usize, time: u64, fresh: &[u8; 32], key: &[u8;
     answer
 }
 
-pub fn token(
-    ledger: &mut [u8],
-    time: u64,
-    table: &[u8],
-    client: &[u8; 16],
-    key: &[u8; 32],
-    presented: &[u8; 32],
-    code: &[u8; 32],
-    verifier: &[u8],
-    fresh: &[u8; 32],
-) -> Answer
-    ensures { left result ledger.new ≡ token ledger.old time table.now (record { client = client.now; key = key.now; presented = presented.now; code = code.now; verifier = verifier.now; fresh = fresh.now }) }
+pub fn token(ledger: &mut [u8], time: u64, table: &[u8], request: TokenRequest) -> Answer
+    ensures { left result ledger.new ≡ token ledger.old time table.now (redeeming request.entry) }
 {
     let Soundness::Sound = soundness::check(ledger) else {
         return Answer::refused(Refusal::LedgerUnsound);
@@ -90,16 +80,16 @@ pub fn token(
     let Table::Sound = clients::table::check(table) else {
         return Answer::refused(Refusal::TableUnsound);
     };
-    let Known::At(_) = clients::known::find(table, client, key) else {
+    let Some(_) = clients::known::find(table, request.client, request.key) else {
         return Answer::refused(Refusal::ClientUnknown);
     };
-    let Test::Passed = check::key(presented) else {
+    let Test::Passed = check::key(request.presented) else {
         return Answer::refused(Refusal::NoKey);
     };
-    let Form::Well = Verifier::check(verifier) else {
+    let Form::Well = Verifier::check(request.verifier) else {
         return Answer::refused(Refusal::IllFormed);
     };
-    let Found::At(k) = finding::record::code(ledger, code, client) else {
+    let Some(k) = finding::record::code(ledger, request.code, request.client) else {
         return Answer::refused(Refusal::NoCode);
     };
     let Test::Passed = check::unredeemed(at(ledger, k)) else {
@@ -109,11 +99,11 @@ pub fn token(
     let Life::Alive = check_life(at(ledger, k), time) else {
         return Answer::refused(Refusal::RecordExpired);
     };
-    let Match::Same = check_verifier(at(ledger, k), verifier) else {
+    let Match::Same = check_verifier(at(ledger, k), request.verifier) else {
         return Answer::refused(Refusal::VerifierDiffers);
     };
-    let Value::New = finding::pool::check(ledger, fresh) else {
+    let Value::New = finding::pool::check(ledger, request.fresh) else {
         return Answer::refused(Refusal::FreshTaken);
     };
-    token_at(ledger, k, time, fresh, presented)
+    token_at(ledger, k, time, request.fresh, request.presented)
 }

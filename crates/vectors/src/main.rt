@@ -11,60 +11,50 @@ use std::io;
 
 // The texts of a message's digest, a column each.
 fn columns(rt: &impl Print, m: &[u8]) -> io::Result<()> {
-    let h = digest_hex(m);
-    let t = digest_text(m);
     rt.write_all(b" ")?;
-    rt.write_all(&h)?;
+    rt.write_all(&digest_hex(m))?;
     rt.write_all(b" ")?;
-    rt.write_all(&t)?;
-    rt.write_all(b"\n")
+    rt.write_all(&digest_text(m))?;
+    println!(rt)
 }
 
-fn show(rt: &impl Print, label: &[u8], m: &[u8]) -> io::Result<()> {
-    rt.write_all(label)?;
+fn show(rt: &impl Print, label: &str, m: &[u8]) -> io::Result<()> {
+    print!(rt; "{label}")?;
     columns(rt, m)
 }
 
 // The examples of FIPS 180-4.
 fn examples(rt: &impl Print) -> io::Result<()> {
-    show(rt, b"fips-empty", b"")?;
-    show(rt, b"fips-abc", b"abc")?;
+    show(rt, "fips-empty", b"")?;
+    show(rt, "fips-abc", b"abc")?;
     show(
         rt,
-        b"fips-448",
+        "fips-448",
         b"abcdbcdecdefdefgefghfghighijhijkijkljklmklmnlmnomnopnopq",
     )?;
     show(
         rt,
-        b"fips-896",
+        "fips-896",
         b"abcdefghbcdefghicdefghijdefghijkefghijklfghijklmghijklmnhijklmnoijklmnopjklmnopqklmnopqrlmnopqrsmnopqrstnopqrstu",
     )?;
-    show(rt, b"fips-million", &million())
+    show(rt, "fips-million", &million())
 }
 
 // The verifier of RFC 7636, Appendix B.
 fn verifier(rt: &impl Print) -> io::Result<()> {
     show(
         rt,
-        b"rfc7636-verifier",
+        "rfc7636-verifier",
         b"dBjftJeZ4CVP-mB92K27uhbUJU1p1r_wW1gFWFOEjXk",
     )
 }
 
-// The first n bytes of the pattern.
-fn length(rt: &impl Print, p: [u8; 130], n: usize) -> io::Result<()> {
-    if n <= 130 {
-        rt.write_all(b"length-")?;
-        rt.print(n)?;
-        columns(rt, &p[..n])?;
-    }
-    Ok(())
-}
-
+// The beginnings of the pattern, of every length.
 fn lengths(rt: &impl Print) -> io::Result<()> {
     let p = pattern();
-    for n in 0..131usize {
-        length(rt, p, n)?;
+    for n in 0..=p.len() {
+        print!(rt; "length-{n}")?;
+        columns(rt, &p[..n])?;
     }
     Ok(())
 }

@@ -2,10 +2,12 @@
 ghost use Rattle.std.specs.Prelude.{◌≡◌, ◌<◌, replicate};
 ghost use Rattle.vectors.specs.Messages.{pattern_at, pattern};
 
+use std::array;
+
 pub fn million() -> [u8; 1000000]
     ensures { result ≡ replicate 1000000 97 }
 {
-    [97u8; 1000000]
+    [b'a'; 1000000]
 }
 
 fn pattern_at(i: usize) -> u8
@@ -18,11 +20,5 @@ fn pattern_at(i: usize) -> u8
 pub fn pattern() -> [u8; 130]
     ensures { result ≡ pattern 130 }
 {
-    let mut p = [0u8; 130];
-    let mut i = 0;
-    while i < 130 {
-        p[i] = pattern_at(i);
-        i += 1;
-    }
-    p
+    array::from_fn(pattern_at)
 }

@@ -10,7 +10,10 @@ use Rattle.octets.specs.Parts.{put}
 use Rattle.octets.proofs.Numbers.{length_digits}
 use Rattle.octets.proofs.Parts.{put_splice, length_put}
 use Rattle.desk.specs.declared.answer.Answer.{Answer}
-use Rattle.wire.specs.Answers.{answer_size, answer_bytes}
+use Rattle.desk.specs.declared.answer.Decided.{Decided}
+use Rattle.desk.specs.declared.answer.Swept.{Swept}
+use Rattle.desk.specs.Limits.{output_least}
+use Rattle.wire.specs.Answers.{answer_size, answer_most, answer_bytes, decided_bytes, swept_bytes}
 
 -- what is put behind the first a bytes
 pub put_front : (l : List ℕ) (a : ℕ) (xs y : List ℕ) → a + length xs ≤ length l → y ≡ put l a xs → take (a + length xs) y ≡ take a l ++ xs
@@ -38,3 +41,17 @@ answered a l {y1} {y2} {y3} {y4} {y5} {g} {h} {s} {e} z e1 hg e2 hh e3 hs e4 he 
     let p4 = next y3 17 4 _ s y4 p3.0 (ap length hs ∙ length_digits 4 a.scope) (omega arith) p3.1 e4 in
     let p5 = next y4 21 8 _ e y5 p4.0 (ap length he ∙ length_digits 8 a.expiry) (omega arith) p4.1 e5 in
     sym (take_all 29 y5 (omega (arith, p5.0))) ∙ p5.1 ∙ rw (hg, hh, hs, he)
+
+-- ---- how long each kind of answer is
+
+pub answer_length : (a : Answer) → length (answer_bytes a) ≡ answer_size
+unfolding answer_bytes
+answer_length a = simp (length-append, length_digits) (omega arith)
+
+pub swept_length : (s : Swept) → length (swept_bytes s) ≡ 7
+unfolding swept_bytes
+swept_length s = simp (length-append, length_digits) (omega arith)
+
+pub decided_most : (d : Decided) (out : List ℕ) → length out ≤ output_least → length (decided_bytes d out) ≤ answer_most
+unfolding decided_bytes
+decided_most d out h = let n = answer_length d.answer in simp (length-append, length-take) (omega arith)

@@ -1,11 +1,11 @@
 -- Which bytes are a frame, and where its fields are: "First byte is the kind; fields follow in this order with fixed width, the last one in 01 and 03
 -- taking the rest, which may be empty".
-use Rattle.std.specs.Prelude.{ℕ, ◌+◌, Bool, true, false, ◌&&◌, cond, List, [], ◌∷◌, eqb, leb, ltb, length, get_or, take, drop}
+use Rattle.std.specs.Prelude.{ℕ, ◌+◌, Bool, true, false, ◌&&◌, cond, Option, None, Some, List, [], ◌∷◌, eqb, leb, ltb, length, get_or, take, drop}
 use Rattle.octets.specs.Parts.{part}
 use Rattle.forms.specs.Limits.{challenge_length}
 use Rattle.clients.specs.Limits.{client_size}
 use Rattle.wire.specs.declared.kind.Kind.{Kind}
-use Rattle.wire.specs.declared.kind.Kind.TheVariants.{Start, Push, Decide, Token, Resource, Sweep, Client, NoFrame}
+use Rattle.wire.specs.declared.kind.Kind.TheVariants.{Start, Push, Decide, Token, Resource, Sweep, Client}
 
 -- a row of the table of kinds: the kind, its byte, the widths of its fields in order, and whether one more field takes the rest
 pub record Row : Type 0 where
@@ -60,9 +60,9 @@ width r = 1 + sum r.widths
 unfoldable pub fits : ℕ → ℕ → Bool → List ℕ → Bool
 fits b w rest f = eqb (get_or f 0 0) b && cond rest (leb w (length f)) (eqb (length f) w)
 
-unfoldable pub among : List Row → List ℕ → Kind
-among [] f = NoFrame
-among (r ∷ rs) f = cond (fits r.byte (width r) r.rest f) r.kind (among rs f)
+unfoldable pub among : List Row → List ℕ → Option Kind
+among [] f = None
+among (r ∷ rs) f = cond (fits r.byte (width r) r.rest f) (Some r.kind) (among rs f)
 
 -- where field i of a frame begins, the field itself, and the one that takes the rest
 abbrev pub place : Row → ℕ → ℕ
@@ -82,21 +82,15 @@ byte r i f = get_or f (place r i) 0
 abbrev pub yes_byte : List ℕ → ℕ
 yes_byte f = byte decide 3 f
 
-abbrev pub by_yes : ℕ → Kind
-by_yes b = cond (ltb 1 b) NoFrame Decide
+abbrev pub by_yes : ℕ → Option Kind
+by_yes b = cond (ltb 1 b) None (Some Decide)
 
-abbrev pub settled : Kind → List ℕ → Kind
-settled Start f = Start
-settled Push f = Push
-settled Decide f = by_yes (yes_byte f)
-settled Token f = Token
-settled Resource f = Resource
-settled Sweep f = Sweep
-settled Client f = Client
-settled NoFrame f = NoFrame
+abbrev pub settled : Option Kind → List ℕ → Option Kind
+settled (Some Decide) f = by_yes (yes_byte f)
+settled k f = k
 
--- which kind of frame the bytes are
-unfoldable pub kind_of : List ℕ → Kind
+-- which kind of frame the bytes are, if they are one
+unfoldable pub kind_of : List ℕ → Option Kind
 kind_of f = settled (among rows f) f
 
 -- the least bytes that a frame of this kind has
@@ -108,4 +102,3 @@ least Token = width token
 least Resource = width resource
 least Sweep = width sweep
 least Client = width client
-least NoFrame = 0

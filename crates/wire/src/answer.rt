@@ -3,7 +3,7 @@ ghost use Rattle.std.specs.Prelude.{◌≡◌};
 ghost use Rattle.wire.specs.Answers.{answer_size, answer_most, answer_bytes};
 
 use desk::answer::Answer;
-use octets::number::{bytes32, bytes64};
+use octets::number::Number;
 use octets::part::put;
 
 #[derive(Clone, Copy)]
@@ -42,9 +42,9 @@ pub fn bytes(a: Answer) -> [u8; Said::SIZE]
 {
     let mut out = [0u8; Said::SIZE];
     put(&mut out, 0, &[a.number]);
-    put(&mut out, Said::GRANT, &bytes64(a.grant));
-    put(&mut out, Said::HOLDER, &bytes64(a.holder));
-    put(&mut out, Said::SCOPE, &bytes32(a.scope));
-    put(&mut out, Said::EXPIRY, &bytes64(a.expiry));
+    put(&mut out, Said::GRANT, &a.grant.bytes());
+    put(&mut out, Said::HOLDER, &a.holder.bytes());
+    put(&mut out, Said::SCOPE, &a.scope.bytes());
+    put(&mut out, Said::EXPIRY, &a.expiry.bytes());
     out
 }

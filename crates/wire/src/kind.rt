@@ -1,7 +1,7 @@
 // The kinds of frames: each with its byte, and the places of its fields.
-ghost use Rattle.std.specs.Prelude.{◌≡◌, true, ◌≤◌, ◌<◌, length};
+ghost use Rattle.std.specs.Prelude.{◌≡◌, ◌≤◌, length, IfSome};
 ghost use Rattle.wire.specs.Calls.{request_size};
-ghost use Rattle.wire.specs.Kinds.{fits, by_yes, kind_of, least};
+ghost use Rattle.wire.specs.Kinds.{kind_of, least};
 
 #[derive(Clone, Copy)]
 pub enum Kind {
@@ -12,10 +12,9 @@ pub enum Kind {
     Resource,
     Sweep,
     Client,
-    NoFrame,
 }
 
-// Widths of fields, each with the kind it belongs to.
+// Widths, bytes and places of fields are associated constants of what they belong to (document 01), so each kind has a type beside `Kind`.
 #[derive(Clone, Copy)]
 pub struct ClientId {}
 
@@ -161,56 +160,19 @@ impl Client {
     pub const WIDTH: usize = 65;
 }
 
-fn fits(f: &[u8], byte: u8, width: usize, rest: bool) -> bool
-    requires { 0 < width }
-    ensures { result ≡ fits byte width rest f.now }
-{
-    if f.len() < width {
-        return false;
-    }
-    if f[0] != byte {
-        return false;
-    }
-    if rest {
-        return true;
-    }
-    f.len() == width
-}
-
-// "a yes byte above 01" is no frame.
-fn by_yes(yes: u8) -> Kind
-    ensures { result ≡ by_yes yes }
-{
-    if 1 < yes {
-        return Kind::NoFrame;
-    }
-    Kind::Decide
-}
-
-pub fn kind_of(f: &[u8]) -> Kind
+// The kind whose byte comes first, where the frame has its length, and decide's its yes byte: "a yes byte above 01" is no frame.
+pub fn kind_of(f: &[u8]) -> Option<Kind>
     ensures value { result ≡ kind_of f.now }
-    ensures result_in_bounds { least result ≤ length f.now }
+    ensures result_in_bounds { IfSome result (λ k. least k ≤ length f.now) }
 {
-    if fits(f, Start::BYTE, Start::WIDTH, false) {
-        return Kind::Start;
+    match f {
+        [Start::BYTE, ..] if f.len() == Start::WIDTH => Some(Kind::Start),
+        [Push::BYTE, ..] if Push::WIDTH <= f.len() => Some(Kind::Push),
+        [Decide::BYTE, ..] if f.len() == Decide::WIDTH && f[Decide::YES] <= 1 => Some(Kind::Decide),
+        [Token::BYTE, ..] if Token::WIDTH <= f.len() => Some(Kind::Token),
+        [Resource::BYTE, ..] if f.len() == Resource::WIDTH => Some(Kind::Resource),
+        [Sweep::BYTE, ..] if f.len() == Sweep::WIDTH => Some(Kind::Sweep),
+        [Client::BYTE, ..] if f.len() == Client::WIDTH => Some(Kind::Client),
+        _ => None,
     }
-    if fits(f, Push::BYTE, Push::WIDTH, true) {
-        return Kind::Push;
-    }
-    if fits(f, Decide::BYTE, Decide::WIDTH, false) {
-        return by_yes(f[Decide::YES]);
-    }
-    if fits(f, Token::BYTE, Token::WIDTH, true) {
-        return Kind::Token;
-    }
-    if fits(f, Resource::BYTE, Resource::WIDTH, false) {
-        return Kind::Resource;
-    }
-    if fits(f, Sweep::BYTE, Sweep::WIDTH, false) {
-        return Kind::Sweep;
-    }
-    if fits(f, Client::BYTE, Client::WIDTH, false) {
-        return Kind::Client;
-    }
-    Kind::NoFrame
 }

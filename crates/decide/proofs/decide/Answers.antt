@@ -1,4 +1,4 @@
-use Rattle.std.proofs.Common.{List, ap, eqb, length, ltb, ◌&&◌, not, refl, sym, true, ℕ, ◌∙◌, ◌≡◌}
+use Rattle.std.proofs.Common.{List, ap, eqb, length, ltb, ◌&&◌, not, refl, sym, true, ℕ, ◌∙◌, ◌≡◌, Some}
 use Rattle.desk.proofs.Tests.{told}
 use Rattle.desk.proofs.Turns.{nth, Come, passes, stops, all_pass}
 use Rattle.desk.proofs.Written.{found_inside, timely_lt, decide_yes, decide_no, refuses}
@@ -16,13 +16,12 @@ use Rattle.desk.specs.Tests.{fails_when}
 use Rattle.desk.specs.declared.check.Test.TheVariants.{Passed}
 use Rattle.ledger.specs.Checks.{check_sound, check_time, check_life, taken, found}
 use Rattle.ledger.specs.declared.clock.Timing.TheVariants.{Timely}
-use Rattle.ledger.specs.declared.find.Found.TheVariants.{At}
 use Rattle.ledger.specs.declared.record.Life.TheVariants.{Alive}
 use Rattle.ledger.specs.declared.sound.Soundness.TheVariants.{Sound}
 use Rattle.decide.proofs.decide.Goals as goal
 
 -- a record that is read where the request is found stands at the request's place
-record_is : (l : List ℕ) (request : DecideRequest) {k : ℕ} {r : List ℕ} → found (is_reference request.reference request.client) l ≡ At k → r ≡ rec l k
+record_is : (l : List ℕ) (request : DecideRequest) {k : ℕ} {r : List ℕ} → found (is_reference request.reference request.client) l ≡ Some k → r ≡ rec l k
     → r ≡ rec l (reference_place l request)
 record_is l request f p = p ∙ ap (rec l) (sym (found_place _ _ _ f))
 
@@ -60,7 +59,7 @@ module _ (l : List ℕ) (time : ℕ) (request : DecideRequest) (out : List ℕ) 
         unfolding decide_checks
         come3 = passes 2 checks come2 (told _ _ room)
 
-        module _ {k : ℕ} (here : found (is_reference request.reference request.client) l ≡ At k) where
+        module _ {k : ℕ} (here : found (is_reference request.reference request.client) l ≡ Some k) where
           come4 : Come 4 checks
           unfolding decide_checks
           come4 = passes 3 checks come3 (ap not (found_told _ _ _ here))
@@ -109,40 +108,40 @@ pub returns-in_default-check_life : goal.returns-in_default-check_life
 unfolding decide_checks
 returns-in_default-check_life c =
     let l = c.args.ledger.now in
-    let request : DecideRequest = record { reference = c.args.reference.now; client = c.args.client.now; yes = c.args.yes; holder = c.args.holder; fresh = c.args.fresh.now } in
-    refusal l c.args.time request c.args.out.now 4 (come4 _ _ _ _ (sym c.in-Sound.ensures) (sym c.in-Timely.ensures) (sym c.in-Passed.ensures) (sym c.in-At.ensures))
-    (life_told _ _ _ (rw (record_is l request (sym c.in-At.ensures) c.at.ensures) at (sym c.in_default-check_life.ensures))) c.refused-in_default-check_life.ensures
+    let request : DecideRequest = record { reference = c.args.request.reference.now; client = c.args.request.client.now; yes = c.args.request.yes; holder = c.args.request.holder; fresh = c.args.request.fresh.now } in
+    refusal l c.args.time request c.args.out.now 4 (come4 _ _ _ _ (sym c.in-Sound.ensures) (sym c.in-Timely.ensures) (sym c.in-Passed.ensures) (sym c.in-Some.ensures))
+    (life_told _ _ _ (rw (record_is l request (sym c.in-Some.ensures) c.at.ensures) at (sym c.in_default-check_life.ensures))) c.refused-in_default-check_life.ensures
 
 pub returns-in_default-given : goal.returns-in_default-given
 unfolding decide_checks
 returns-in_default-given c =
-    refusal _ _ _ _ 5 (come5 _ _ _ _ (sym c.in-Sound.ensures) (sym c.in-Timely.ensures) (sym c.in-Passed.ensures) (sym c.in-At.ensures) c.at.ensures (sym c.in-Alive.ensures))
+    refusal _ _ _ _ 5 (come5 _ _ _ _ (sym c.in-Sound.ensures) (sym c.in-Timely.ensures) (sym c.in-Passed.ensures) (sym c.in-Some.ensures) c.at.ensures (sym c.in-Alive.ensures))
     (told _ _ (sym c.in_default-given.ensures)) c.refused-in_default-given.ensures
 
 pub returns-in_default-check_fresh : goal.returns-in_default-check_fresh
 unfolding decide_checks
 returns-in_default-check_fresh c =
-    refusal _ _ _ _ 6 (come6 _ _ _ _ (sym c.in-Sound.ensures) (sym c.in-Timely.ensures) (sym c.in-Passed.ensures) (sym c.in-At.ensures) c.at.ensures (sym c.in-Alive.ensures) (sym c.in-Passed-given.ensures))
+    refusal _ _ _ _ 6 (come6 _ _ _ _ (sym c.in-Sound.ensures) (sym c.in-Timely.ensures) (sym c.in-Passed.ensures) (sym c.in-Some.ensures) c.at.ensures (sym c.in-Alive.ensures) (sym c.in-Passed-given.ensures))
     (told _ _ (sym c.in_default-check_fresh.ensures)) c.refused-in_default-check_fresh.ensures
 
 pub consent_at-requires : goal.consent_at-requires
-consent_at-requires c = (found_inside (is_reference c.args.reference.now c.args.client.now) _ _ (sym c.in-At.ensures), timely_lt _ _ (time_told _ _ _ (sym c.in-Timely.ensures)))
+consent_at-requires c = (found_inside (is_reference c.args.request.reference.now c.args.request.client.now) _ _ (sym c.in-Some.ensures), timely_lt _ _ (time_told _ _ _ (sym c.in-Timely.ensures)))
 
-pub returns-then-yes : goal.returns-then-yes
-returns-then-yes c =
+pub returns-then-request : goal.returns-then-request
+returns-then-request c =
     let l = c.args.ledger.now in
-    let request : DecideRequest = record { reference = c.args.reference.now; client = c.args.client.now; yes = c.args.yes; holder = c.args.holder; fresh = c.args.fresh.now } in
-    let t = come7 l c.args.time request c.args.out.now (sym c.in-Sound.ensures) (sym c.in-Timely.ensures) (sym c.in-Passed.ensures) (sym c.in-At.ensures) c.at.ensures (sym c.in-Alive.ensures) (sym c.in-Passed-given.ensures) (sym c.in-Passed-check_fresh.ensures) in
+    let request : DecideRequest = record { reference = c.args.request.reference.now; client = c.args.request.client.now; yes = c.args.request.yes; holder = c.args.request.holder; fresh = c.args.request.fresh.now } in
+    let t = come7 l c.args.time request c.args.out.now (sym c.in-Sound.ensures) (sym c.in-Timely.ensures) (sym c.in-Passed.ensures) (sym c.in-Some.ensures) c.at.ensures (sym c.in-Alive.ensures) (sym c.in-Passed-given.ensures) (sym c.in-Passed-check_fresh.ensures) in
     c.consent_at.ensures
-    ∙ sym (acceptance _ _ _ _ t ∙ decide_yes l c.args.time request c.args.out.now _ c.if-yes.true (found_place _ _ _ (sym c.in-At.ensures)))
+    ∙ sym (acceptance _ _ _ _ t ∙ decide_yes l c.args.time request c.args.out.now _ c.if-request.true (found_place _ _ _ (sym c.in-Some.ensures)))
 
 pub decline_at-requires : goal.decline_at-requires
-decline_at-requires c = found_inside (is_reference c.args.reference.now c.args.client.now) _ _ (sym c.in-At.ensures)
+decline_at-requires c = found_inside (is_reference c.args.request.reference.now c.args.request.client.now) _ _ (sym c.in-Some.ensures)
 
 pub returns : goal.returns
 returns c =
     let l = c.args.ledger.now in
-    let request : DecideRequest = record { reference = c.args.reference.now; client = c.args.client.now; yes = c.args.yes; holder = c.args.holder; fresh = c.args.fresh.now } in
-    let t = come7 l c.args.time request c.args.out.now (sym c.in-Sound.ensures) (sym c.in-Timely.ensures) (sym c.in-Passed.ensures) (sym c.in-At.ensures) c.at.ensures (sym c.in-Alive.ensures) (sym c.in-Passed-given.ensures) (sym c.in-Passed-check_fresh.ensures) in
+    let request : DecideRequest = record { reference = c.args.request.reference.now; client = c.args.request.client.now; yes = c.args.request.yes; holder = c.args.request.holder; fresh = c.args.request.fresh.now } in
+    let t = come7 l c.args.time request c.args.out.now (sym c.in-Sound.ensures) (sym c.in-Timely.ensures) (sym c.in-Passed.ensures) (sym c.in-Some.ensures) c.at.ensures (sym c.in-Alive.ensures) (sym c.in-Passed-given.ensures) (sym c.in-Passed-check_fresh.ensures) in
     c.decline_at.ensures
-    ∙ sym (acceptance _ _ _ _ t ∙ decide_no l c.args.time request c.args.out.now _ c.if-yes.false (found_place _ _ _ (sym c.in-At.ensures)))
+    ∙ sym (acceptance _ _ _ _ t ∙ decide_no l c.args.time request c.args.out.now _ c.if-request.false (found_place _ _ _ (sym c.in-Some.ensures)))

@@ -1,4 +1,4 @@
-use Rattle.std.proofs.Common.{List, ap, not, refl, sym, true, ℕ, ◌∙◌, ◌≡◌}
+use Rattle.std.proofs.Common.{List, ap, not, refl, sym, true, ℕ, ◌∙◌, ◌≡◌, Option, Some, None}
 use Rattle.desk.proofs.Turns.{nth, Come, passes, stops, all_pass}
 use Rattle.desk.proofs.Written.{refuses}
 use Rattle.desk.specs.Answers.{introspected, untold}
@@ -7,8 +7,6 @@ use Rattle.desk.specs.Introspect.{text_for, introspect_checks, introspect_with, 
 use Rattle.desk.specs.Outcome.{left_with, concludes}
 use Rattle.desk.specs.declared.answer.Introspected.{Introspected}
 use Rattle.description.specs.Writing.{written, written_over}
-use Rattle.description.specs.declared.Written.{Written}
-use Rattle.description.specs.declared.Written.TheVariants.{Length, Short}
 use Rattle.introspect.proofs.Texts.{short_told, short_stays, long_told, long_is, long_over}
 use Rattle.ledger.proofs.Tests.{sound_told, time_told}
 use Rattle.ledger.specs.Checks.{check_sound, check_time}
@@ -46,14 +44,14 @@ module _ (l : List ℕ) (time : ℕ) (v out : List ℕ) where
       come2 = passes 1 checks come1 (time_told _ _ _ timely)
 
       -- what the text's writer answers and leaves
-      module _ {a : Written} {x : List ℕ} (wrote : (a ≡ written text out) × (x ≡ written_over text out)) where
-        too_short : a ≡ Short → {i : Introspected} → i ≡ untold (nth 2 checks).why → left_with i l x ≡ introspect l time v out
+      module _ {a : Option ℕ} {x : List ℕ} (wrote : (a ≡ written text out) × (x ≡ written_over text out)) where
+        too_short : a ≡ None → {i : Introspected} → i ≡ untold (nth 2 checks).why → left_with i l x ≡ introspect l time v out
         unfolding introspect_checks
         too_short e h =
             let w = sym wrote.0 ∙ e in
             ap (left_with _ l) (wrote.1 ∙ short_stays text out w) ∙ refusal 2 come2 (short_told text out w) h
 
-        long_enough : {n : ℕ} → a ≡ Length n → {i : Introspected} → i ≡ introspected n → left_with i l x ≡ introspect l time v out
+        long_enough : {n : ℕ} → a ≡ Some n → {i : Introspected} → i ≡ introspected n → left_with i l x ≡ introspect l time v out
         unfolding introspect_checks introspect_with
         long_enough {n} e h =
             let w = sym wrote.0 ∙ e in
@@ -78,4 +76,4 @@ returns-in_default-describe c =
 
 pub returns : goal.returns
 returns c =
-    long_enough _ _ _ _ (sym c.in-Sound.ensures) (sym c.in-Timely.ensures) c.describe.ensures c.in-Length.is c.with.ensures
+    long_enough _ _ _ _ (sym c.in-Sound.ensures) (sym c.in-Timely.ensures) c.describe.ensures c.in-Some.is c.with.ensures

@@ -1,4 +1,4 @@
-use Rattle.std.proofs.Common.{List, ap, length, ltb, not, refl, sym, true, ℕ, ◌∙◌, ◌≡◌}
+use Rattle.std.proofs.Common.{List, ap, length, ltb, not, refl, sym, true, ℕ, ◌∙◌, ◌≡◌, Some}
 use Rattle.desk.proofs.Tests.{told}
 use Rattle.desk.proofs.Turns.{nth, Come, passes, stops, all_pass}
 use Rattle.desk.proofs.Written.{pending_shown, refuses}
@@ -15,13 +15,12 @@ use Rattle.desk.specs.Tests.{fails_when}
 use Rattle.desk.specs.declared.check.Test.TheVariants.{Passed}
 use Rattle.ledger.specs.Checks.{check_sound, check_time, check_life, found, is_reference}
 use Rattle.ledger.specs.declared.clock.Timing.TheVariants.{Timely}
-use Rattle.ledger.specs.declared.find.Found.TheVariants.{At}
 use Rattle.ledger.specs.declared.record.Life.TheVariants.{Alive}
 use Rattle.ledger.specs.declared.sound.Soundness.TheVariants.{Sound}
 use Rattle.pending.proofs.pending.Goals as goal
 
 -- a record that is read where the request is found stands at the request's place
-record_is : (l : List ℕ) (request : PendingRequest) {k : ℕ} {r : List ℕ} → found (is_reference request.reference request.client) l ≡ At k → r ≡ rec l k
+record_is : (l : List ℕ) (request : PendingRequest) {k : ℕ} {r : List ℕ} → found (is_reference request.reference request.client) l ≡ Some k → r ≡ rec l k
     → r ≡ rec l (pending_place l request)
 record_is l request f p = p ∙ ap (rec l) (sym (found_place _ _ _ f))
 
@@ -59,7 +58,7 @@ module _ (l : List ℕ) (time : ℕ) (request : PendingRequest) (out : List ℕ)
         unfolding pending_checks
         come3 = passes 2 checks come2 (told _ _ room)
 
-        module _ {k : ℕ} (here : found (is_reference request.reference request.client) l ≡ At k) where
+        module _ {k : ℕ} (here : found (is_reference request.reference request.client) l ≡ Some k) where
           come4 : Come 4 checks
           unfolding pending_checks
           come4 = passes 3 checks come3 (ap not (found_told _ _ _ here))
@@ -99,14 +98,14 @@ unfolding pending_checks
 returns-in_default-check_life c =
     let l = c.args.ledger.now in
     let request : PendingRequest = record { reference = c.args.reference.now; client = c.args.client.now } in
-    refusal l c.args.time request c.args.output.now 4 (come4 _ _ _ _ (sym c.in-Sound.ensures) (sym c.in-Timely.ensures) (sym c.in-Passed.ensures) (sym c.in-At.ensures))
-    (life_told _ _ _ (rw (record_is l request (sym c.in-At.ensures) c.at-r.ensures) at (sym c.in_default-check_life.ensures))) c.refused-in_default-check_life.ensures
+    refusal l c.args.time request c.args.output.now 4 (come4 _ _ _ _ (sym c.in-Sound.ensures) (sym c.in-Timely.ensures) (sym c.in-Passed.ensures) (sym c.in-Some.ensures))
+    (life_told _ _ _ (rw (record_is l request (sym c.in-Some.ensures) c.at-r.ensures) at (sym c.in_default-check_life.ensures))) c.refused-in_default-check_life.ensures
 
 pub returns : goal.returns
 returns c =
     let l = c.args.ledger.now in
     let request : PendingRequest = record { reference = c.args.reference.now; client = c.args.client.now } in
-    let t = come5 l c.args.time request c.args.output.now (sym c.in-Sound.ensures) (sym c.in-Timely.ensures) (sym c.in-Passed.ensures) (sym c.in-At.ensures) c.at-r.ensures (sym c.in-Alive.ensures) in
-    pending_shown l c.args.output.now (pending_place l request) _ _ _ _ _ (record_is l request (sym c.in-At.ensures) c.at-r.ensures) c.hand_out.ensures c.of.ensures
+    let t = come5 l c.args.time request c.args.output.now (sym c.in-Sound.ensures) (sym c.in-Timely.ensures) (sym c.in-Passed.ensures) (sym c.in-Some.ensures) c.at-r.ensures (sym c.in-Alive.ensures) in
+    pending_shown l c.args.output.now (pending_place l request) _ _ _ _ _ (record_is l request (sym c.in-Some.ensures) c.at-r.ensures) c.hand_out.ensures c.of.ensures
     c.redirect_length.ensures c.with.ensures
     ∙ sym (acceptance _ _ _ _ t)

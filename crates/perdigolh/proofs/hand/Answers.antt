@@ -1,5 +1,5 @@
-use Rattle.perdigolh.proofs.Bytes.{begins_all}
+use Rattle.perdigolh.proofs.Bytes.{begins_either}
 use Rattle.perdigolh.proofs.hand.Goals as goal
 
-pub returns-in-Ok-clause-front : goal.returns-in-Ok-clause-front
-returns-in-Ok-clause-front g c = begins_all _ _ c.args.bytes.now c.in-Ok.ensures.whole
+pub returns-clause-front : goal.returns-clause-front
+returns-clause-front g c = begins_either c.write_whole.result _ _ _ c.write_whole.ensures.whole c.write_whole.ensures.front

@@ -1,4 +1,4 @@
-use Rattle.std.proofs.Common.{List, ap, eqb, not, refl, sym, true, ℕ, ◌∙◌, ◌≡◌}
+use Rattle.std.proofs.Common.{List, ap, eqb, not, refl, sym, true, ℕ, ◌∙◌, ◌≡◌, Some, Ok, Err}
 use Rattle.desk.proofs.Tests.{told}
 use Rattle.desk.proofs.Turns.{nth, Come, passes, stops, all_pass}
 use Rattle.desk.specs.Answers.{answer_of}
@@ -6,20 +6,18 @@ use Rattle.desk.specs.Checks.{Check, Verdict, scope_fits}
 use Rattle.desk.specs.Requests.{ResourceRequest}
 use Rattle.desk.specs.Resource.{token_place, resource_checks, read_by, look}
 use Rattle.desk.specs.Tests.{fails_when}
-use Rattle.desk.specs.declared.answer.Reading.TheVariants.{Granted, Refused}
 use Rattle.desk.specs.declared.check.Test.{Test}
 use Rattle.ledger.proofs.Tests.{sound_told, time_told, life_told, found_told, found_place}
 use Rattle.ledger.specs.Checks.{check_sound, check_time, check_life, found, is_token}
 use Rattle.ledger.specs.Fields.{rec, scope, holder}
 use Rattle.desk.specs.declared.check.Test.TheVariants.{Passed}
 use Rattle.ledger.specs.declared.clock.Timing.TheVariants.{Timely}
-use Rattle.ledger.specs.declared.find.Found.TheVariants.{At}
 use Rattle.ledger.specs.declared.record.Life.TheVariants.{Alive}
 use Rattle.ledger.specs.declared.sound.Soundness.TheVariants.{Sound}
 use Rattle.resource.proofs.look.Goals as goal
 
 -- a record that is read where the token is found stands at the token's place
-record_is : (l : List ℕ) (request : ResourceRequest) {k : ℕ} {r : List ℕ} → found (is_token request.token) l ≡ At k → r ≡ rec l k
+record_is : (l : List ℕ) (request : ResourceRequest) {k : ℕ} {r : List ℕ} → found (is_token request.token) l ≡ Some k → r ≡ rec l k
     → r ≡ rec l (token_place l request)
 record_is l request f p = p ∙ ap (rec l) (sym (found_place _ _ _ f))
 
@@ -36,12 +34,12 @@ module _ (l : List ℕ) (time : ℕ) (request : ResourceRequest) where
   checks = resource_checks l time request (token_place l request)
 
   -- the check whose turn has come fails: its row is answered
-  refusal : (n : ℕ) → Come n checks → (nth n checks).holds ≡ true → Refused (nth n checks).why ≡ look l time request
+  refusal : (n : ℕ) → Come n checks → (nth n checks).holds ≡ true → Err (nth n checks).why ≡ look l time request
   unfolding look
   refusal n t h = sym (ap (λ (v : Verdict). read_by v found_record) (stops n checks t h))
 
   -- none is left: the reading is granted
-  acceptance : Come 7 checks → look l time request ≡ Granted (answer_of found_record)
+  acceptance : Come 7 checks → look l time request ≡ Ok (answer_of found_record)
   unfolding look resource_checks
   acceptance t = ap (λ (v : Verdict). read_by v found_record) (all_pass 7 checks t refl)
 
@@ -56,7 +54,7 @@ module _ (l : List ℕ) (time : ℕ) (request : ResourceRequest) where
       unfolding resource_checks
       come2 = passes 1 checks come1 (time_told _ _ _ timely)
 
-      module _ {k : ℕ} (here : found (is_token request.token) l ≡ At k) where
+      module _ {k : ℕ} (here : found (is_token request.token) l ≡ Some k) where
         come3 : Come 3 checks
         unfolding resource_checks
         come3 = passes 2 checks come2 (ap not (found_told _ _ _ here))
@@ -104,43 +102,43 @@ pub returns-in_default-check_life : goal.returns-in_default-check_life
 unfolding resource_checks
 returns-in_default-check_life c =
     let l = c.args.ledger.now in
-    let request : ResourceRequest = record { token = c.args.token.now; presented = c.args.presented.now; scope = c.args.scope; holder = c.args.holder } in
-    let read = record_is l request (sym c.in-At.ensures) c.at-r.ensures in
-    refusal l c.args.time request 3 (come3 _ _ _ (sym c.in-Sound.ensures) (sym c.in-Timely.ensures) (sym c.in-At.ensures))
+    let request : ResourceRequest = record { token = c.args.request.token.now; presented = c.args.request.presented.now; scope = c.args.request.scope; holder = c.args.request.holder } in
+    let read = record_is l request (sym c.in-Some.ensures) c.at-r.ensures in
+    refusal l c.args.time request 3 (come3 _ _ _ (sym c.in-Sound.ensures) (sym c.in-Timely.ensures) (sym c.in-Some.ensures))
     (life_told _ _ _ (rw read at (sym c.in_default-check_life.ensures)))
 
 pub returns-in_default-bound : goal.returns-in_default-bound
 unfolding resource_checks
 returns-in_default-bound c =
     let l = c.args.ledger.now in
-    let request : ResourceRequest = record { token = c.args.token.now; presented = c.args.presented.now; scope = c.args.scope; holder = c.args.holder } in
-    let read = record_is l request (sym c.in-At.ensures) c.at-r.ensures in
-    refusal l c.args.time request 4 (come4 _ _ _ (sym c.in-Sound.ensures) (sym c.in-Timely.ensures) (sym c.in-At.ensures) c.at-r.ensures (sym c.in-Alive.ensures))
+    let request : ResourceRequest = record { token = c.args.request.token.now; presented = c.args.request.presented.now; scope = c.args.request.scope; holder = c.args.request.holder } in
+    let read = record_is l request (sym c.in-Some.ensures) c.at-r.ensures in
+    refusal l c.args.time request 4 (come4 _ _ _ (sym c.in-Sound.ensures) (sym c.in-Timely.ensures) (sym c.in-Some.ensures) c.at-r.ensures (sym c.in-Alive.ensures))
     (told _ _ (rw read at (sym c.in_default-bound.ensures)))
 
 pub returns-in_default-within : goal.returns-in_default-within
 unfolding resource_checks
 returns-in_default-within c =
     let l = c.args.ledger.now in
-    let request : ResourceRequest = record { token = c.args.token.now; presented = c.args.presented.now; scope = c.args.scope; holder = c.args.holder } in
-    let read = record_is l request (sym c.in-At.ensures) c.at-r.ensures in
-    refusal l c.args.time request 5 (come5 _ _ _ (sym c.in-Sound.ensures) (sym c.in-Timely.ensures) (sym c.in-At.ensures) c.at-r.ensures (sym c.in-Alive.ensures) (rw read at (sym c.in-Passed.ensures)))
-    (told _ _ (bits c.args.scope read c.scope.ensures (sym c.in_default-within.ensures)))
+    let request : ResourceRequest = record { token = c.args.request.token.now; presented = c.args.request.presented.now; scope = c.args.request.scope; holder = c.args.request.holder } in
+    let read = record_is l request (sym c.in-Some.ensures) c.at-r.ensures in
+    refusal l c.args.time request 5 (come5 _ _ _ (sym c.in-Sound.ensures) (sym c.in-Timely.ensures) (sym c.in-Some.ensures) c.at-r.ensures (sym c.in-Alive.ensures) (rw read at (sym c.in-Passed.ensures)))
+    (told _ _ (bits c.args.request.scope read c.scope.ensures (sym c.in_default-within.ensures)))
 
 pub returns-in_default-held : goal.returns-in_default-held
 unfolding resource_checks
 returns-in_default-held c =
     let l = c.args.ledger.now in
-    let request : ResourceRequest = record { token = c.args.token.now; presented = c.args.presented.now; scope = c.args.scope; holder = c.args.holder } in
-    let read = record_is l request (sym c.in-At.ensures) c.at-r.ensures in
-    refusal l c.args.time request 6 (come6 _ _ _ (sym c.in-Sound.ensures) (sym c.in-Timely.ensures) (sym c.in-At.ensures) c.at-r.ensures (sym c.in-Alive.ensures) (rw read at (sym c.in-Passed.ensures)) c.scope.ensures (sym c.in-Passed-within.ensures))
+    let request : ResourceRequest = record { token = c.args.request.token.now; presented = c.args.request.presented.now; scope = c.args.request.scope; holder = c.args.request.holder } in
+    let read = record_is l request (sym c.in-Some.ensures) c.at-r.ensures in
+    refusal l c.args.time request 6 (come6 _ _ _ (sym c.in-Sound.ensures) (sym c.in-Timely.ensures) (sym c.in-Some.ensures) c.at-r.ensures (sym c.in-Alive.ensures) (rw read at (sym c.in-Passed.ensures)) c.scope.ensures (sym c.in-Passed-within.ensures))
     (told _ _ (rw read at (sym c.in_default-held.ensures)))
 
 pub returns : goal.returns
 unfolding resource_checks
 returns c =
     let l = c.args.ledger.now in
-    let request : ResourceRequest = record { token = c.args.token.now; presented = c.args.presented.now; scope = c.args.scope; holder = c.args.holder } in
-    let read = record_is l request (sym c.in-At.ensures) c.at-r.ensures in
-    let t = come7 l c.args.time request (sym c.in-Sound.ensures) (sym c.in-Timely.ensures) (sym c.in-At.ensures) c.at-r.ensures (sym c.in-Alive.ensures) (rw read at (sym c.in-Passed.ensures)) c.scope.ensures (sym c.in-Passed-within.ensures) (sym c.in-Passed-held.ensures) in
-    ap Granted (c.of.ensures ∙ ap answer_of read) ∙ sym (acceptance _ _ _ t)
+    let request : ResourceRequest = record { token = c.args.request.token.now; presented = c.args.request.presented.now; scope = c.args.request.scope; holder = c.args.request.holder } in
+    let read = record_is l request (sym c.in-Some.ensures) c.at-r.ensures in
+    let t = come7 l c.args.time request (sym c.in-Sound.ensures) (sym c.in-Timely.ensures) (sym c.in-Some.ensures) c.at-r.ensures (sym c.in-Alive.ensures) (rw read at (sym c.in-Passed.ensures)) c.scope.ensures (sym c.in-Passed-within.ensures) (sym c.in-Passed-held.ensures) in
+    ap Ok (c.of.ensures ∙ ap answer_of read) ∙ sym (acceptance _ _ _ t)

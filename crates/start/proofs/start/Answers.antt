@@ -4,7 +4,7 @@ use Rattle.ledger.proofs.Tests.{size_told}
 use Rattle.start.proofs.start.Goals as goal
 
 pub returns-in_default : goal.returns-in_default
-returns-in_default c = start_1 _ _ (size_told _ _ (sym c.check_size.ensures ∙ c.in_default.is)) c.number.ensures
+returns-in_default c = start_1 _ _ (size_told _ _ (sym c.check_size.ensures ∙ c.in_default.is)) c.from.ensures
 
 pub returns : goal.returns
 returns c =

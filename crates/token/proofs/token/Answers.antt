@@ -1,4 +1,4 @@
-use Rattle.std.proofs.Common.{List, ap, not, refl, sym, true, ℕ, ◌∙◌, ◌≡◌}
+use Rattle.std.proofs.Common.{List, ap, not, refl, sym, true, ℕ, ◌∙◌, ◌≡◌, Some}
 use Rattle.desk.proofs.Tests.{told, table_told, known_told}
 use Rattle.desk.proofs.Turns.{nth, Come, passes, stops, all_pass}
 use Rattle.desk.proofs.Written.{token_at_lem as written_at, found_inside, timely_lt, refuses}
@@ -19,14 +19,12 @@ use Rattle.forms.specs.Forms.{verifier_form}
 use Rattle.forms.specs.declared.Form.TheVariants.{Well}
 use Rattle.clients.specs.Known.{known}
 use Rattle.clients.specs.Sound.{check_table}
-use Rattle.clients.specs.declared.known.Known.TheVariants.{At as Client}
 use Rattle.clients.specs.declared.table.Table.TheVariants.{Sound as SoundTable}
 use Rattle.desk.specs.Tests.{fails_when}
 use Rattle.desk.specs.declared.check.Test.TheVariants.{Passed}
 use Rattle.ledger.specs.Checks.{check_sound, check_time, check_life, found}
 use Rattle.ledger.specs.Fields.{in_state, challenge}
 use Rattle.ledger.specs.declared.clock.Timing.TheVariants.{Timely}
-use Rattle.ledger.specs.declared.find.Found.TheVariants.{At}
 use Rattle.ledger.specs.declared.record.Life.TheVariants.{Alive}
 use Rattle.ledger.specs.declared.sound.Soundness.TheVariants.{Sound}
 use Rattle.ledger.specs.declared.state.State.TheVariants.{Redeemed}
@@ -35,7 +33,7 @@ use Rattle.s256.specs.declared.Match.TheVariants.{Same}
 use Rattle.token.proofs.token.Goals as goal
 
 -- a record that is read where the code is found stands at the code's place
-record_is : (l : List ℕ) (request : TokenRequest) {k : ℕ} {r : List ℕ} → found (is_code request.code request.client) l ≡ At k → r ≡ rec l k
+record_is : (l : List ℕ) (request : TokenRequest) {k : ℕ} {r : List ℕ} → found (is_code request.code request.client) l ≡ Some k → r ≡ rec l k
     → r ≡ rec l (code_place l request)
 record_is l request f p = p ∙ ap (rec l) (sym (found_place _ _ _ f))
 
@@ -77,7 +75,7 @@ module _ (l : List ℕ) (time : ℕ) (table : List ℕ) (request : TokenRequest)
         unfolding token_checks
         come3 = passes 2 checks come2 (ap not (table_told _ _ whole))
 
-        module _ {w : ℕ} (who : known table request.client request.key ≡ Client w) where
+        module _ {w : ℕ} (who : known table request.client request.key ≡ Some w) where
           come4 : Come 4 checks
           unfolding token_checks
           come4 = passes 3 checks come3 (ap not (known_told _ _ _ _ who))
@@ -92,7 +90,7 @@ module _ (l : List ℕ) (time : ℕ) (table : List ℕ) (request : TokenRequest)
               unfolding token_checks
               come6 = passes 5 checks come5 (ap not (verifier_well _ formed))
 
-              module _ {k : ℕ} (here : found (is_code request.code request.client) l ≡ At k) where
+              module _ {k : ℕ} (here : found (is_code request.code request.client) l ≡ Some k) where
                 come7 : Come 7 checks
                 unfolding token_checks
                 come7 = passes 6 checks come6 (ap not (found_told _ _ _ here))
@@ -140,58 +138,58 @@ returns-in_default-find c =
 pub returns-in_default-key : goal.returns-in_default-key
 unfolding token_checks
 returns-in_default-key c =
-    refusal _ _ _ _ 4 (come4 _ _ _ _ (sym c.in-Sound.ensures) (sym c.in-Timely.ensures) (sym c.in-Sound-check.ensures) (sym c.in-At.ensures))
+    refusal _ _ _ _ 4 (come4 _ _ _ _ (sym c.in-Sound.ensures) (sym c.in-Timely.ensures) (sym c.in-Sound-check.ensures) (sym c.in-Some.ensures))
     (told _ _ (sym c.in_default-key.ensures)) c.refused-in_default-key.ensures refl
 
 pub returns-in_default-check-3 : goal.returns-in_default-check-3
 unfolding token_checks
 returns-in_default-check-3 c =
-    refusal _ _ _ _ 5 (come5 _ _ _ _ (sym c.in-Sound.ensures) (sym c.in-Timely.ensures) (sym c.in-Sound-check.ensures) (sym c.in-At.ensures) (sym c.in-Passed.ensures))
+    refusal _ _ _ _ 5 (come5 _ _ _ _ (sym c.in-Sound.ensures) (sym c.in-Timely.ensures) (sym c.in-Sound-check.ensures) (sym c.in-Some.ensures) (sym c.in-Passed.ensures))
     (ap not (verifier_ill _ (sym c.in_default-check-3.ensures))) c.refused-in_default-check-3.ensures refl
 
 pub returns-in_default-code : goal.returns-in_default-code
 unfolding token_checks
 returns-in_default-code c =
-    refusal _ _ _ _ 6 (come6 _ _ _ _ (sym c.in-Sound.ensures) (sym c.in-Timely.ensures) (sym c.in-Sound-check.ensures) (sym c.in-At.ensures) (sym c.in-Passed.ensures) (sym c.in-Well.ensures))
+    refusal _ _ _ _ 6 (come6 _ _ _ _ (sym c.in-Sound.ensures) (sym c.in-Timely.ensures) (sym c.in-Sound-check.ensures) (sym c.in-Some.ensures) (sym c.in-Passed.ensures) (sym c.in-Well.ensures))
     (ap not (found_told _ _ _ (sym c.in_default-code.ensures))) c.refused-in_default-code.ensures refl
 
 pub end_at-requires : goal.end_at-requires
-end_at-requires c = found_inside (is_code c.args.code.now c.args.client.now) _ _ (sym c.in-At-code.ensures)
+end_at-requires c = found_inside (is_code c.args.request.code.now c.args.request.client.now) _ _ (sym c.in-Some-code.ensures)
 
 -- 15, whose record is freed and whose clock is set
 pub returns-in_default-unredeemed : goal.returns-in_default-unredeemed
 unfolding token_checks
 returns-in_default-unredeemed c =
     let l = c.args.ledger.now in
-    let request : TokenRequest = record { client = c.args.client.now; key = c.args.key.now; presented = c.args.presented.now; code = c.args.code.now; verifier = c.args.verifier.now; fresh = c.args.fresh.now } in
-    refusal l c.args.time c.args.table.now request 7 (come7 _ _ _ _ (sym c.in-Sound.ensures) (sym c.in-Timely.ensures) (sym c.in-Sound-check.ensures) (sym c.in-At.ensures) (sym c.in-Passed.ensures) (sym c.in-Well.ensures) (sym c.in-At-code.ensures))
-    (told _ _ (rw (record_is l request (sym c.in-At-code.ensures) c.at.ensures) at (sym c.in_default-unredeemed.ensures))) c.refused-in_default-unredeemed.ensures (c.end_at.ensures ∙ ap (ended l c.args.time) (sym (found_place _ _ _ (sym c.in-At-code.ensures))))
+    let request : TokenRequest = record { client = c.args.request.client.now; key = c.args.request.key.now; presented = c.args.request.presented.now; code = c.args.request.code.now; verifier = c.args.request.verifier.now; fresh = c.args.request.fresh.now } in
+    refusal l c.args.time c.args.table.now request 7 (come7 _ _ _ _ (sym c.in-Sound.ensures) (sym c.in-Timely.ensures) (sym c.in-Sound-check.ensures) (sym c.in-Some.ensures) (sym c.in-Passed.ensures) (sym c.in-Well.ensures) (sym c.in-Some-code.ensures))
+    (told _ _ (rw (record_is l request (sym c.in-Some-code.ensures) c.at.ensures) at (sym c.in_default-unredeemed.ensures))) c.refused-in_default-unredeemed.ensures (c.end_at.ensures ∙ ap (ended l c.args.time) (sym (found_place _ _ _ (sym c.in-Some-code.ensures))))
 
 pub returns-in_default-check_life : goal.returns-in_default-check_life
 unfolding token_checks
 returns-in_default-check_life c =
     let l = c.args.ledger.now in
-    let request : TokenRequest = record { client = c.args.client.now; key = c.args.key.now; presented = c.args.presented.now; code = c.args.code.now; verifier = c.args.verifier.now; fresh = c.args.fresh.now } in
-    refusal l c.args.time c.args.table.now request 8 (come8 _ _ _ _ (sym c.in-Sound.ensures) (sym c.in-Timely.ensures) (sym c.in-Sound-check.ensures) (sym c.in-At.ensures) (sym c.in-Passed.ensures) (sym c.in-Well.ensures) (sym c.in-At-code.ensures) c.at.ensures (sym c.in-Passed-unredeemed.ensures))
-    (life_told _ _ _ (rw (record_is l request (sym c.in-At-code.ensures) c.at-2.ensures) at (sym c.in_default-check_life.ensures))) c.refused-in_default-check_life.ensures refl
+    let request : TokenRequest = record { client = c.args.request.client.now; key = c.args.request.key.now; presented = c.args.request.presented.now; code = c.args.request.code.now; verifier = c.args.request.verifier.now; fresh = c.args.request.fresh.now } in
+    refusal l c.args.time c.args.table.now request 8 (come8 _ _ _ _ (sym c.in-Sound.ensures) (sym c.in-Timely.ensures) (sym c.in-Sound-check.ensures) (sym c.in-Some.ensures) (sym c.in-Passed.ensures) (sym c.in-Well.ensures) (sym c.in-Some-code.ensures) c.at.ensures (sym c.in-Passed-unredeemed.ensures))
+    (life_told _ _ _ (rw (record_is l request (sym c.in-Some-code.ensures) c.at-2.ensures) at (sym c.in_default-check_life.ensures))) c.refused-in_default-check_life.ensures refl
 
 pub returns-in_default-check_verifier : goal.returns-in_default-check_verifier
 unfolding token_checks
 returns-in_default-check_verifier c =
     let l = c.args.ledger.now in
-    let request : TokenRequest = record { client = c.args.client.now; key = c.args.key.now; presented = c.args.presented.now; code = c.args.code.now; verifier = c.args.verifier.now; fresh = c.args.fresh.now } in
-    refusal l c.args.time c.args.table.now request 9 (come9 _ _ _ _ (sym c.in-Sound.ensures) (sym c.in-Timely.ensures) (sym c.in-Sound-check.ensures) (sym c.in-At.ensures) (sym c.in-Passed.ensures) (sym c.in-Well.ensures) (sym c.in-At-code.ensures) c.at.ensures (sym c.in-Passed-unredeemed.ensures) c.at-2.ensures (sym c.in-Alive.ensures))
-    (ap not (matching_differs _ _ (rw (record_is l request (sym c.in-At-code.ensures) c.at-3.ensures) at (sym c.in_default-check_verifier.ensures)))) c.refused-in_default-check_verifier.ensures refl
+    let request : TokenRequest = record { client = c.args.request.client.now; key = c.args.request.key.now; presented = c.args.request.presented.now; code = c.args.request.code.now; verifier = c.args.request.verifier.now; fresh = c.args.request.fresh.now } in
+    refusal l c.args.time c.args.table.now request 9 (come9 _ _ _ _ (sym c.in-Sound.ensures) (sym c.in-Timely.ensures) (sym c.in-Sound-check.ensures) (sym c.in-Some.ensures) (sym c.in-Passed.ensures) (sym c.in-Well.ensures) (sym c.in-Some-code.ensures) c.at.ensures (sym c.in-Passed-unredeemed.ensures) c.at-2.ensures (sym c.in-Alive.ensures))
+    (ap not (matching_differs _ _ (rw (record_is l request (sym c.in-Some-code.ensures) c.at-3.ensures) at (sym c.in_default-check_verifier.ensures)))) c.refused-in_default-check_verifier.ensures refl
 
 pub returns-in_default-check-4 : goal.returns-in_default-check-4
 unfolding token_checks
 returns-in_default-check-4 c =
-    refusal _ _ _ _ 10 (come10 _ _ _ _ (sym c.in-Sound.ensures) (sym c.in-Timely.ensures) (sym c.in-Sound-check.ensures) (sym c.in-At.ensures) (sym c.in-Passed.ensures) (sym c.in-Well.ensures) (sym c.in-At-code.ensures) c.at.ensures (sym c.in-Passed-unredeemed.ensures) c.at-2.ensures (sym c.in-Alive.ensures) c.at-3.ensures (sym c.in-Same.ensures))
+    refusal _ _ _ _ 10 (come10 _ _ _ _ (sym c.in-Sound.ensures) (sym c.in-Timely.ensures) (sym c.in-Sound-check.ensures) (sym c.in-Some.ensures) (sym c.in-Passed.ensures) (sym c.in-Well.ensures) (sym c.in-Some-code.ensures) c.at.ensures (sym c.in-Passed-unredeemed.ensures) c.at-2.ensures (sym c.in-Alive.ensures) c.at-3.ensures (sym c.in-Same.ensures))
     (value_told _ _ _ (sym c.in_default-check-4.ensures)) c.refused-in_default-check-4.ensures refl
 
 pub token_at-requires : goal.token_at-requires
 token_at-requires c = (
-  found_inside (is_code c.args.code.now c.args.client.now) _ _ (sym c.in-At-code.ensures),
+  found_inside (is_code c.args.request.code.now c.args.request.client.now) _ _ (sym c.in-Some-code.ensures),
   timely_lt _ _ (time_told _ _ _ (sym c.in-Timely.ensures)),
 )
 
@@ -199,7 +197,7 @@ pub returns : goal.returns
 unfolding token_checks
 returns c =
     let l = c.args.ledger.now in
-    let request : TokenRequest = record { client = c.args.client.now; key = c.args.key.now; presented = c.args.presented.now; code = c.args.code.now; verifier = c.args.verifier.now; fresh = c.args.fresh.now } in
+    let request : TokenRequest = record { client = c.args.request.client.now; key = c.args.request.key.now; presented = c.args.request.presented.now; code = c.args.request.code.now; verifier = c.args.request.verifier.now; fresh = c.args.request.fresh.now } in
     let t =
-    passes 10 (checks l c.args.time c.args.table.now request) (come10 _ _ _ _ (sym c.in-Sound.ensures) (sym c.in-Timely.ensures) (sym c.in-Sound-check.ensures) (sym c.in-At.ensures) (sym c.in-Passed.ensures) (sym c.in-Well.ensures) (sym c.in-At-code.ensures) c.at.ensures (sym c.in-Passed-unredeemed.ensures) c.at-2.ensures (sym c.in-Alive.ensures) c.at-3.ensures (sym c.in-Same.ensures)) (value_told _ _ _ (sym c.in-New.ensures)) in
-    c.token_at.ensures ∙ written_at l c.args.time request _ (found_place _ _ _ (sym c.in-At-code.ensures)) ∙ sym (acceptance _ _ _ _ t)
+    passes 10 (checks l c.args.time c.args.table.now request) (come10 _ _ _ _ (sym c.in-Sound.ensures) (sym c.in-Timely.ensures) (sym c.in-Sound-check.ensures) (sym c.in-Some.ensures) (sym c.in-Passed.ensures) (sym c.in-Well.ensures) (sym c.in-Some-code.ensures) c.at.ensures (sym c.in-Passed-unredeemed.ensures) c.at-2.ensures (sym c.in-Alive.ensures) c.at-3.ensures (sym c.in-Same.ensures)) (value_told _ _ _ (sym c.in-New.ensures)) in
+    c.token_at.ensures ∙ written_at l c.args.time request _ (found_place _ _ _ (sym c.in-Some-code.ensures)) ∙ sym (acceptance _ _ _ _ t)

@@ -4,4 +4,4 @@ use Rattle.clients.specs.Fields.{lifetime_span}
 use Rattle.clients.proofs.lifetime.said.Goals as goal
 
 pub returns : goal.returns
-returns c = c.read16.ensures ∙ field_read lifetime_span c.args.c.now _ c.cut.ensures
+returns c = c.from.ensures ∙ c.read.ensures ∙ field_read lifetime_span c.args.c.now _ c.cut.ensures

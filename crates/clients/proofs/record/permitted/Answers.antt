@@ -7,5 +7,5 @@ use Rattle.clients.proofs.record.permitted.Goals as goal
 pub returns : goal.returns
 returns c =
     let a = c.args in
-    c.read32.ensures
+    c.read.ensures
     ∙ field_read permitted_span (client a.table.now a.k) _ (c.cut.ensures ∙ ap (field permitted_span) c.client_at.ensures)

@@ -2,10 +2,10 @@ use Rattle.std.proofs.Common.{eq-eqb, ne_eqb}
 use Rattle.desk.specs.Checks.{scope_fits}
 use Rattle.desk.proofs.check.fits.Goals as goal
 
-pub returns-then-asked-eq0 : goal.returns-then-asked-eq0
+pub returns-then-asked-ne0 : goal.returns-then-asked-ne0
 unfolding scope_fits
-returns-then-asked-eq0 c = rw (eq-eqb _ 0 c.if-asked-eq0.true)
+returns-then-asked-ne0 c = rw (ne_eqb _ 0 c.if-asked-ne0.true)
 
-pub returns : goal.returns
+pub returns-else-asked-ne0 : goal.returns-else-asked-ne0
 unfolding scope_fits
-returns c = rw (ne_eqb _ 0 c.if-asked-eq0.false)
+returns-else-asked-ne0 c = rw (eq-eqb _ 0 c.if-asked-ne0.false)

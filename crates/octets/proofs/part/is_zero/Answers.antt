@@ -1,13 +1,15 @@
-use Rattle.std.proofs.Common.{refl, rules, sym, ◌∙◌}
-use Rattle.octets.proofs.Parts.{zeros_more, zeros_end}
-use mathlib.Core.Bool.{and-true}
+use Rattle.std.proofs.Common.{refl, sym, ap, ◌∙◌, ◌&&◌, add-one, take, nat_eq, get_or}
+use lib.Seq.{take-suc}
+use Rattle.octets.specs.Parts.{zeros}
+use Rattle.octets.proofs.Parts.{zeros_last}
 use Rattle.octets.proofs.part.is_zero.Goals as goal
 
-pub loop-i-init : goal.loop-i-init
-loop-i-init c = (search rules, refl)
+pub loop-x-init : goal.loop-x-init
+unfolding zeros
+loop-x-init c = refl
 
-pub loop-i-preserved : goal.loop-i-preserved
-loop-i-preserved c = let p = c.loop-i in (search rules, p.invariant.1 ∙ zeros_more _ _ p.clean c.loop-i-test.true)
-
-pub returns : goal.returns
-returns c = let p = c.loop-i in sym (p.invariant.1 ∙ rw (zeros_end c.args.s.now p.i c.loop-i-test.false) (and-true p.clean))
+pub loop-x-preserved : goal.loop-x-preserved
+loop-x-preserved c =
+    let l = c.loop-x in
+    let s = c.args.s.now in
+    rw (add-one, take-suc s l.x-index 0 c.loop-x-test.true) (ap (λ b. b && nat_eq (get_or s l.x-index 0) 0) l.invariant ∙ sym (zeros_last (take l.x-index s) (get_or s l.x-index 0)))

@@ -1,9 +1,6 @@
-use Rattle.std.proofs.Common.{drop, length, ◌&&◌, ◌-◌, ◌≡◌, ◌≤◌}
+use Rattle.std.proofs.Common.{◌≡◌, take}
 use Rattle.octets.specs.Parts.{zeros}
 use Rattle.octets.proofs.part.is_zero.Given as goal
 
-abbrev pub invariant-loop-i : goal.invariant-loop-i
-invariant-loop-i l = (l.i ≤ length l.s) × (zeros l.s ≡ (l.clean && zeros (drop l.i l.s)))
-
-abbrev pub decreases-loop-i : goal.decreases-loop-i
-decreases-loop-i l = length l.s - l.i
+abbrev pub invariant-loop-x : goal.invariant-loop-x
+invariant-loop-x l = l.clean ≡ zeros (take l.x-index l.s)

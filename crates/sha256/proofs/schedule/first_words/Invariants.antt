@@ -1,10 +1,6 @@
-use Rattle.std.proofs.Common.{◌-◌, ◌≤◌}
 use Rattle.octets.proofs.Tabulate.{Filled}
 use Rattle.sha256.specs.Pad.{word_at}
 use Rattle.sha256.proofs.schedule.first_words.Given as goal
 
 abbrev pub invariant-loop-t : goal.invariant-loop-t
-invariant-loop-t l = (l.t ≤ 16) × Filled (word_at l.b) 64 l.w l.t
-
-abbrev pub decreases-loop-t : goal.decreases-loop-t
-decreases-loop-t l = 16 - l.t
+invariant-loop-t l = Filled (word_at l.b) 64 l.w l.t

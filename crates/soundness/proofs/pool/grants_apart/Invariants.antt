@@ -1,17 +1,13 @@
-use Rattle.std.proofs.Common.{drop, false, ◌+◌, ◌-◌, ◌<◌, ◌≡◌, ◌≤◌}
-use Rattle.ledger.specs.Fields.{rec, slots, records}
+use Rattle.std.proofs.Common.{drop, false, ◌+◌, ◌≡◌}
 use Rattle.ledger.specs.Sound.{same_grant}
 use Rattle.octets.specs.Lists.{some, apart}
 use Rattle.soundness.proofs.pool.grants_apart.Given as goal
 
-abbrev pub invariant-loop-j : goal.invariant-loop-j
-invariant-loop-j l = (l.n ≡ slots l.l) × (l.i < l.j) × (l.j ≤ l.n) × (l.clash ≡ false) × (some (same_grant (rec l.l l.i)) (drop (l.i + 1) (records l.l)) ≡ some (same_grant (rec l.l l.i)) (drop l.j (records l.l)))
-
-abbrev pub decreases-loop-j : goal.decreases-loop-j
-decreases-loop-j l = l.n - l.j
+abbrev pub invariant-loop-s : goal.invariant-loop-s
+invariant-loop-s l = record {
+  unclashed : l.clash ≡ false;
+  left : some (same_grant l.r) (drop (l.i + 1) l.records) ≡ some (same_grant l.r) (drop (l.i + 1 + l.s-index) l.records);
+}
 
 abbrev pub invariant-search : goal.invariant-search
-invariant-search l = (l.n ≡ slots l.l) × (l.i ≤ l.n) × (l.clash ≡ false) × (apart same_grant (records l.l) ≡ apart same_grant (drop l.i (records l.l)))
-
-abbrev pub decreases-search : goal.decreases-search
-decreases-search l = l.n - l.i
+invariant-search l = record { unclashed : l.clash ≡ false; left : apart same_grant l.records ≡ apart same_grant (drop l.i l.records) }

@@ -1,27 +1,11 @@
-use Rattle.std.proofs.Common.{arith, length-set, refl, rules, sym, ◌∙◌}
-use Rattle.octets.proofs.Parts.{front_more, front_laid}
+use Rattle.std.proofs.Common.{arith, rules, sym, ◌≡◌, ◌∙◌}
+use Rattle.octets.specs.Parts.{put}
 use Rattle.texts.proofs.Hexes.{length_decoded, decoded_at}
-use Rattle.texts.specs.Hex.{decoded}
+use Rattle.texts.specs.Hex.{decoded, pair_at}
 use Rattle.texts.proofs.hex.read.Goals as goal
 
-pub pair_at-requires : goal.pair_at-requires
-pair_at-requires c = (search rules, omega arith)
-
-pub loop-i-preserved : goal.loop-i-preserved
-loop-i-preserved c =
-    let l = c.loop-i in
-    let a = c.args in
-    let n = length_decoded a.text.now in
-    let m = front_more (decoded a.text.now) a.out.now l.out l.i _ (omega arith) (omega arith) l.invariant.2 l.invariant.3
-    (c.pair_at.ensures ∙ sym (decoded_at a.text.now l.i (omega arith))) in
-    (search rules, simp length-set l.invariant.1, m.0, m.1)
-
 pub returns : goal.returns
+unfolding put
 returns c =
-    let l = c.loop-i in
-    let a = c.args in
-    let n = length_decoded a.text.now in
-    front_laid (decoded a.text.now) a.out.now l.out l.i (omega arith) l.invariant.2 l.invariant.3
-
-pub loop-i-init : goal.loop-i-init
-loop-i-init c = (search rules, refl, refl, refl)
+    let t = c.args.text.now in
+    c.lay.ensures (decoded t) record { sized = length_decoded t; tells = λ i x h k. let f : x ≡ pair_at t i = search rules in f ∙ sym (decoded_at t i (omega arith)) }

@@ -1,40 +1,54 @@
-use Rattle.std.proofs.Common.{arith, get_or, rules, sym, ◌∙◌}
-use Rattle.wire.proofs.Fits.{fits_long, yes_least}
-use Rattle.wire.specs.Kinds.{among, kind_of}
+use Rattle.std.proofs.Common.{arith, le-ltb, refl, sym, ◌∙◌}
+use Rattle.wire.proofs.Fits.{no_bytes, fixed, other_length, with_rest, too_short, unknown_kind, yes_above}
 use Rattle.wire.proofs.kind.kind_of.Goals as goal
 
-pub returns-then-fits : goal.returns-then-fits
-unfolding kind_of among
-returns-then-fits c = record { value = simp (sym c.fits.ensures ∙ c.if-fits.true); result_in_bounds = fits_long _ _ _ _ (sym c.fits.ensures ∙ c.if-fits.true) }
+pub returns-in-0-clause-value : goal.returns-in-0-clause-value
+returns-in-0-clause-value c = sym (fixed c.args.f.now 0 (omega arith) (omega arith) refl (omega arith))
 
-pub returns-then-fits-2 : goal.returns-then-fits-2
-unfolding kind_of among
-returns-then-fits-2 c = record { value = simp (sym c.fits.ensures ∙ c.if-fits.false, sym c.fits-2.ensures ∙ c.if-fits-2.true); result_in_bounds = fits_long _ _ _ _ (sym c.fits-2.ensures ∙ c.if-fits-2.true) }
+pub returns-in-1-clause-value : goal.returns-in-1-clause-value
+returns-in-1-clause-value c = sym (with_rest c.args.f.now 1 (omega arith) (omega arith) refl (omega arith))
 
-pub bounds-f-57 : goal.bounds-f-57
-unfolding kind_of among
-bounds-f-57 c = omega (arith, fits_long _ _ _ _ (sym c.fits-3.ensures ∙ c.if-fits-3.true))
+pub returns-in-2-clause-value : goal.returns-in-2-clause-value
+returns-in-2-clause-value c = sym (fixed c.args.f.now 2 (omega arith) (omega arith) refl (omega arith) ∙ simp (le-ltb _ _ c.if-f-le1.true))
 
-pub returns-then-fits-3 : goal.returns-then-fits-3
-unfolding kind_of among
-returns-then-fits-3 c = record { value = c.by_yes.ensures ∙ simp (sym c.fits.ensures ∙ c.if-fits.false, sym c.fits-2.ensures ∙ c.if-fits-2.false, sym c.fits-3.ensures ∙ c.if-fits-3.true); result_in_bounds = rw c.by_yes.ensures (yes_least (get_or c.args.f.now 57 0) _ (fits_long _ _ _ _ (sym c.fits-3.ensures ∙ c.if-fits-3.true))) }
+pub returns-in-3-clause-value : goal.returns-in-3-clause-value
+returns-in-3-clause-value c = sym (with_rest c.args.f.now 3 (omega arith) (omega arith) refl (omega arith))
 
-pub returns-then-fits-4 : goal.returns-then-fits-4
-unfolding kind_of among
-returns-then-fits-4 c = record { value = simp (sym c.fits.ensures ∙ c.if-fits.false, sym c.fits-2.ensures ∙ c.if-fits-2.false, sym c.fits-3.ensures ∙ c.if-fits-3.false, sym c.fits-4.ensures ∙ c.if-fits-4.true); result_in_bounds = fits_long _ _ _ _ (sym c.fits-4.ensures ∙ c.if-fits-4.true) }
+pub returns-in-4-clause-value : goal.returns-in-4-clause-value
+returns-in-4-clause-value c = sym (fixed c.args.f.now 4 (omega arith) (omega arith) refl (omega arith))
 
-pub returns-then-fits-5 : goal.returns-then-fits-5
-unfolding kind_of among
-returns-then-fits-5 c = record { value = simp (sym c.fits.ensures ∙ c.if-fits.false, sym c.fits-2.ensures ∙ c.if-fits-2.false, sym c.fits-3.ensures ∙ c.if-fits-3.false, sym c.fits-4.ensures ∙ c.if-fits-4.false, sym c.fits-5.ensures ∙ c.if-fits-5.true); result_in_bounds = fits_long _ _ _ _ (sym c.fits-5.ensures ∙ c.if-fits-5.true) }
+pub returns-in-5-clause-value : goal.returns-in-5-clause-value
+returns-in-5-clause-value c = sym (fixed c.args.f.now 5 (omega arith) (omega arith) refl (omega arith))
 
-pub returns-then-fits-6 : goal.returns-then-fits-6
-unfolding kind_of among
-returns-then-fits-6 c = record { value = simp (sym c.fits.ensures ∙ c.if-fits.false, sym c.fits-2.ensures ∙ c.if-fits-2.false, sym c.fits-3.ensures ∙ c.if-fits-3.false, sym c.fits-4.ensures ∙ c.if-fits-4.false, sym c.fits-5.ensures ∙ c.if-fits-5.false, sym c.fits-6.ensures ∙ c.if-fits-6.true); result_in_bounds = fits_long _ _ _ _ (sym c.fits-6.ensures ∙ c.if-fits-6.true) }
+pub returns-in-6-clause-value : goal.returns-in-6-clause-value
+returns-in-6-clause-value c = sym (fixed c.args.f.now 6 (omega arith) (omega arith) refl (omega arith))
 
-pub returns-then-fits-7 : goal.returns-then-fits-7
-unfolding kind_of among
-returns-then-fits-7 c = record { value = simp (sym c.fits.ensures ∙ c.if-fits.false, sym c.fits-2.ensures ∙ c.if-fits-2.false, sym c.fits-3.ensures ∙ c.if-fits-3.false, sym c.fits-4.ensures ∙ c.if-fits-4.false, sym c.fits-5.ensures ∙ c.if-fits-5.false, sym c.fits-6.ensures ∙ c.if-fits-6.false, sym c.fits-7.ensures ∙ c.if-fits-7.true); result_in_bounds = fits_long _ _ _ _ (sym c.fits-7.ensures ∙ c.if-fits-7.true) }
+pub returns-in_default-clause-value : goal.returns-in_default-clause-value
+returns-in_default-clause-value c = sym (no_bytes c.args.f.now (omega arith))
 
-pub returns : goal.returns
-unfolding kind_of among
-returns c = record { value = simp (sym c.fits.ensures ∙ c.if-fits.false, sym c.fits-2.ensures ∙ c.if-fits-2.false, sym c.fits-3.ensures ∙ c.if-fits-3.false, sym c.fits-4.ensures ∙ c.if-fits-4.false, sym c.fits-5.ensures ∙ c.if-fits-5.false, sym c.fits-6.ensures ∙ c.if-fits-6.false, sym c.fits-7.ensures ∙ c.if-fits-7.false); result_in_bounds = search rules }
+pub returns-in_default-2-clause-value : goal.returns-in_default-2-clause-value
+returns-in_default-2-clause-value c = sym (other_length c.args.f.now 0 (omega arith) (omega arith) refl (λ e. absurd (omega arith)))
+
+pub returns-in_default-3-clause-value : goal.returns-in_default-3-clause-value
+returns-in_default-3-clause-value c = sym (too_short c.args.f.now 1 (omega arith) (omega arith) refl (omega arith))
+
+pub returns-in_default-4-clause-value : goal.returns-in_default-4-clause-value
+returns-in_default-4-clause-value c = sym (yes_above c.args.f.now (omega arith) c.if-f-le1.false)
+
+pub returns-in_default-5-clause-value : goal.returns-in_default-5-clause-value
+returns-in_default-5-clause-value c = sym (other_length c.args.f.now 2 (omega arith) (omega arith) refl (λ e. absurd (omega arith)))
+
+pub returns-in_default-6-clause-value : goal.returns-in_default-6-clause-value
+returns-in_default-6-clause-value c = sym (too_short c.args.f.now 3 (omega arith) (omega arith) refl (omega arith))
+
+pub returns-in_default-7-clause-value : goal.returns-in_default-7-clause-value
+returns-in_default-7-clause-value c = sym (other_length c.args.f.now 4 (omega arith) (omega arith) refl (λ e. absurd (omega arith)))
+
+pub returns-in_default-8-clause-value : goal.returns-in_default-8-clause-value
+returns-in_default-8-clause-value c = sym (other_length c.args.f.now 5 (omega arith) (omega arith) refl (λ e. absurd (omega arith)))
+
+pub returns-in_default-9-clause-value : goal.returns-in_default-9-clause-value
+returns-in_default-9-clause-value c = sym (other_length c.args.f.now 6 (omega arith) (omega arith) refl (λ e. absurd (omega arith)))
+
+pub returns-in_default-10-clause-value : goal.returns-in_default-10-clause-value
+returns-in_default-10-clause-value c = sym (unknown_kind c.args.f.now (omega arith))

@@ -1,6 +1,0 @@
-use Rattle.std.proofs.Common.{◌∙◌}
-use Rattle.frames.proofs.Answers.{short_digits}
-use Rattle.frames.proofs.answer.short.Goals as goal
-
-pub returns : goal.returns
-returns c = c.bytes16.ensures ∙ short_digits _

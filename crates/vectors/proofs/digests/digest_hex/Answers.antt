@@ -1,4 +1,0 @@
-use Rattle.vectors.proofs.digests.digest_hex.Goals as goal
-
-pub returns : goal.returns
-returns c = cc

@@ -1,4 +1,0 @@
-use Rattle.vectors.proofs.digests.digest_text.Goals as goal
-
-pub returns : goal.returns
-returns c = cc
