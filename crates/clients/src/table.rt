@@ -8,6 +8,7 @@ use super::record::{Client, Field, Record};
 use super::{lifetime, record};
 use octets::part::{cut, is_zero, same};
 
+// An enum: document 01 has each check's answer taken apart by let else, and the case says what was found.
 #[derive(Clone, Copy)]
 pub enum Table {
     Sound,

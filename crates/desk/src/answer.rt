@@ -37,6 +37,7 @@ impl From<Refusal> for u8 {
     }
 }
 
+// Its number stays a number: the table, demands 1 to 3 and the C interface have each answer as a number with values beside it, zeros where it is refused.
 #[derive(Clone, Copy)]
 pub struct Answer {
     pub number: u8,

@@ -15,6 +15,7 @@ use ledger::state::{State, is_in};
 use octets::part::{is_zero, same};
 
 // What a check of the desk's own answers.
+// An enum: document 01 has each check's answer taken apart by let else, and the case says what was found.
 #[derive(Clone, Copy)]
 pub enum Test {
     Passed,

@@ -8,6 +8,7 @@ ghost use Rattle.forms.specs.Forms.{form_if, redirect_form, challenge_form, veri
 
 mod class;
 
+// An enum: document 01 has each check's answer taken apart by let else, and the case says what was found.
 #[derive(Clone, Copy)]
 pub enum Form {
     Well,

@@ -32,6 +32,7 @@ pub fn set_next(l: &mut [u8], number: u64)
     put(l, Head::NEXT, &number.bytes());
 }
 
+// An enum: document 01 has each check's answer taken apart by let else, and the case says what was found.
 #[derive(Clone, Copy)]
 pub enum Timing {
     Timely,

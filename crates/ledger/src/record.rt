@@ -115,6 +115,7 @@ pub fn redirect_field(r: &[u8]) -> &[u8]
     cut(r, Field::REDIRECT, Field::REDIRECT_WIDTH)
 }
 
+// An enum: document 01 has each check's answer taken apart by let else, and the case says what was found.
 #[derive(Clone, Copy)]
 pub enum Life {
     Alive,
