@@ -98,10 +98,7 @@ impl Decided {
     pub fn with(answer: Answer, length: u8) -> Decided
         ensures { result ≡ decided answer length }
     {
-        Decided {
-            answer,
-            length,
-        }
+        Decided { answer, length }
     }
 
     pub fn refused(why: Refusal) -> Decided

@@ -1,11 +1,11 @@
 -- Laws of the questions on a list: what a loop keeps, and what the answer says of the elements.
-use Prim.Native.Nat.{ℕ, zero, suc, ◌+◌, ◌<◌, ◌≤◌}
+use Prim.Native.Nat.{ℕ, zero, suc, ◌+◌, ◌<◌}
 use native.Mathlib.Numerals.{add-one}
 use native.Mathlib.Omega.{arith}
 use mathlib.Core.Path.{◌≡◌, refl, sym, ap, ◌∙◌}
 use mathlib.Core.Bool.{Bool, true, false, not, ◌&&◌, ◌||◌, cond, false≢true, true≢false}
 use mathlib.Core.List.{List, [], ◌∷◌, ◌++◌}
-use lib.ListN.{length, get_or, drop, set, drop_of_length-le}
+use lib.ListN.{length, get_or, drop, set}
 use lib.Seq.{drop-cons}
 use borrow.Author.Tests.{not-true}
 use Rattle.octets.specs.Lists.{bit, every, some, count, place, apart}
@@ -16,19 +16,6 @@ use Rattle.std.specs.Prelude.{All, Any, IsTrue, ◌↔◌, position, Some, None}
 use Rattle.std.specs.List.{position_or_len, count_by}
 use mathlib.Core.Logic.{⊎_elim}
 use Rattle.octets.proofs.Tests.{both, swap_and, false_of, lt_or_le}
-
--- ---- a loop over the elements from k on
-
-module _ {A : Type 0} (q : A → Bool) (l : List A) (d : A) (k : ℕ) where
-  pub every_hit : k < length l → q (get_or l k d) ≡ false → every q (drop k l) ≡ false
-  every_hit h e = rw (drop-cons l k d h, e)
-
-  pub every_miss : k < length l → q (get_or l k d) ≡ true → every q (drop k l) ≡ every q (drop (k + 1) l)
-  every_miss h e = rw (add-one, drop-cons l k d h, e)
-
-module _ {A : Type 0} (q : A → Bool) (l : List A) (k : ℕ) where
-  pub every_end : length l ≤ k → every q (drop k l) ≡ true
-  every_end h = rw (drop_of_length-le l h)
 
 -- ---- a loop over the pairs of elements
 

@@ -5,13 +5,12 @@ use mathlib.Core.Bool.{Bool, true, false, not, ◌&&◌, false≢true, true≢fa
 use mathlib.Core.Logic.{◌≢◌}
 use Prim.Native.Nat.{ℕ, zero, suc, ◌+◌, ◌-◌, ◌≤◌, ◌<◌, min}
 use native.Mathlib.Nat.{min-eq_left, min-eq_right}
-use native.Mathlib.Numerals.{add-one}
 use native.Mathlib.Omega.{arith}
 use lib.Dec.{eqb, leb}
 use lib.Pointwise.{pointwise}
 use Rattle.std.specs.Prelude.{nat_eq}
-use lib.ListN.{length, get_or, take, drop, set, replicate, drop_of_length-le, length-append, length-take, length-drop, length-replicate, take-append-drop, get_or-append}
-use lib.Seq.{take_all, take_at, drop_at, drop-append-le, take-append-le, drop-append-add, drop-drop, take-suc, take-suc-set, drop-nil, drop-set-lt, get_or-take, get_or-drop, get_or-append-add}
+use lib.ListN.{length, get_or, take, drop, replicate, drop_of_length-le, length-append, length-take, length-drop, length-replicate, take-append-drop, get_or-append}
+use lib.Seq.{take_all, take_at, drop_at, drop-append-le, take-append-le, drop-append-add, drop-drop, drop-nil, get_or-take, get_or-drop, get_or-append-add}
 use borrow.Author.Tests.{eq-eqb, eqb-true, leb-true, leb-false, not-true}
 use Rattle.octets.proofs.Tests.{both, false_of}
 use Rattle.octets.specs.Parts.{part, splice, laid, put, blank, zeros, same}
@@ -184,21 +183,6 @@ laid_front xs d n h = ends (leb (length xs) (length d)) refl
         let z : length d ≤ length xs = omega arith in
         let w : length d ≤ length d = omega arith in
         rw (k, drop_of_length-le d z, drop_of_length-le d w)
-
--- the first i elements are those of xs, the rest as they were
-pub front_more : (xs d e : List ℕ) (i v : ℕ) → i < length e → i < length xs → take i e ≡ take i xs → drop i e ≡ drop i d → v ≡ get_or xs i 0
-    → (take (i + 1) (set e i v) ≡ take (i + 1) xs) × (drop (i + 1) (set e i v) ≡ drop (i + 1) d)
-front_more xs d e i v h k f b w = (
-  rw (add-one, take-suc-set e i v h, take-suc xs i 0 k, w) (ap (λ (t : List ℕ). t ++ (get_or xs i 0 ∷ [])) f),
-  rw (add-one, drop-set-lt (suc i) e i v (omega arith)) (tail i e d b),
-)
-  where
-    tail : (i : ℕ) (e d : List ℕ) → drop i e ≡ drop i d → drop (suc i) e ≡ drop (suc i) d
-    tail i e d b = let s : suc i ≡ i + 1 = omega arith in rw s (sym (drop-drop 1 i e) ∙ ap (drop 1) b ∙ drop-drop 1 i d)
-
--- all is written
-pub front_laid : (xs d e : List ℕ) (n : ℕ) → n ≡ min (length xs) (length d) → take n e ≡ take n xs → drop n e ≡ drop n d → e ≡ laid xs d
-front_laid xs d e n h f b = sym (take-append-drop n e) ∙ rw (f, b) (laid_front xs d n h)
 
 -- ---- what is put into a list
 

@@ -9,8 +9,8 @@ pub returns-then-time-clock : goal.returns-then-time-clock
 unfolding check_time untimely
 returns-then-time-clock c =
     elim c.then-time-clock.branch [
-      then-time-clock-via-then-time-clock w ↦ simp (sym c.clock.ensures, lt-ltb _ _ w.if-time-clock.true)
-    | then-time-clock-via-else-time-clock+then-time-ge-LIMIT w ↦ simp (sym c.clock.ensures, le-leb _ _ w.if-time-ge-LIMIT.true, or-true)
+      | then-time-clock-via-then-time-clock w ↦ simp (sym c.clock.ensures, lt-ltb _ _ w.if-time-clock.true)
+      | then-time-clock-via-else-time-clock+then-time-ge-LIMIT w ↦ simp (sym c.clock.ensures, le-leb _ _ w.if-time-ge-LIMIT.true, or-true)
     ]
 
 pub returns : goal.returns
