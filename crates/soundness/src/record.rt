@@ -16,7 +16,7 @@ use octets::part::{cut, from, is_zero};
 fn is_redirect_sound(r: &Record) -> bool
     ensures { result ≡ redirect_sound r.now }
 {
-    let n = redirect_length(r) as usize;
+    let n = usize::from(redirect_length(r));
     if !(Redirect::LEAST..=Redirect::MOST).contains(&n) {
         return false;
     }
