@@ -6,30 +6,29 @@ ghost use Rattle.ledger.specs.Checks.{check_time};
 use super::field::Head;
 use super::limit::Clock;
 use octets::number::Number;
-use octets::part::{from, put};
 
 pub fn clock(l: &[u8]) -> u64
     ensures { result ≡ clock l.now }
 {
-    u64::read(from(l, Head::CLOCK))
+    u64::read(Head::CLOCK.of(l))
 }
 
 pub fn next_number(l: &[u8]) -> u64
     ensures { result ≡ next_number l.now }
 {
-    u64::read(from(l, Head::NEXT))
+    u64::read(Head::NEXT.of(l))
 }
 
 pub fn set_clock(l: &mut [u8], time: u64)
     ensures { l.new ≡ with_clock time l.old }
 {
-    put(l, Head::CLOCK, &time.bytes());
+    Head::CLOCK.put(l, &time.bytes());
 }
 
 pub fn set_next(l: &mut [u8], number: u64)
     ensures { l.new ≡ with_next number l.old }
 {
-    put(l, Head::NEXT, &number.bytes());
+    Head::NEXT.put(l, &number.bytes());
 }
 
 #[derive(Clone, Copy)]

@@ -6,32 +6,31 @@ ghost use Rattle.ledger.specs.Write.{pushed, consented, redeemed};
 use super::field::Field;
 use super::state::State;
 use octets::number::Number;
-use octets::part::put;
 
 fn set_state(r: &mut [u8], s: State)
     ensures { r.new ≡ with_state s r.old }
 {
-    put(r, Field::STATE, &[u8::from(s)]);
+    Field::STATE.put(r, &[u8::from(s)]);
 }
 
 // What a push leaves behind its numbers: who may decide, redeem and be sent back, and by which reference.
 fn set_parties(r: &mut [u8], client: &[u8; 16], challenge: &[u8], fresh: &[u8; 32], redirect: &[u8])
     ensures { r.new ≡ with_redirect redirect.now (with_value fresh.now (with_challenge challenge.now (with_client client.now r.old))) }
 {
-    put(r, Field::CLIENT, client);
-    put(r, Field::CHALLENGE, challenge);
-    put(r, Field::VALUE, fresh);
-    put(r, Field::REDIRECT, redirect);
+    Field::CLIENT.put(r, client);
+    Field::CHALLENGE.put(r, challenge);
+    Field::VALUE.put(r, fresh);
+    Field::REDIRECT.put(r, redirect);
 }
 
 // A push's numbers, with the redirect's length, which is below 256 where the redirect is well formed.
 fn set_numbers(r: &mut [u8], length: usize, scope: u32, grant: u64, expiry: u64)
     ensures { r.new ≡ with_expiry expiry (with_grant grant (with_scope scope (with_redirect_length length r.old))) }
 {
-    put(r, Field::LENGTH, &[(length % 256) as u8]);
-    put(r, Field::SCOPE, &scope.bytes());
-    put(r, Field::GRANT, &grant.bytes());
-    put(r, Field::EXPIRY, &expiry.bytes());
+    Field::LENGTH.put(r, &[(length % 256) as u8]);
+    Field::SCOPE.put(r, &scope.bytes());
+    Field::GRANT.put(r, &grant.bytes());
+    Field::EXPIRY.put(r, &expiry.bytes());
 }
 
 pub fn pushed(
@@ -55,16 +54,16 @@ pub fn consented(r: &mut [u8], expiry: u64, holder: u64, fresh: &[u8; 32])
     ensures { r.new ≡ consented expiry holder fresh.now r.old }
 {
     set_state(r, State::Consented);
-    put(r, Field::EXPIRY, &expiry.bytes());
-    put(r, Field::HOLDER, &holder.bytes());
-    put(r, Field::VALUE, fresh);
+    Field::EXPIRY.put(r, &expiry.bytes());
+    Field::HOLDER.put(r, &holder.bytes());
+    Field::VALUE.put(r, fresh);
 }
 
 pub fn redeemed(r: &mut [u8], expiry: u64, fresh: &[u8; 32], key: &[u8; 32])
     ensures { r.new ≡ redeemed expiry fresh.now key.now r.old }
 {
     set_state(r, State::Redeemed);
-    put(r, Field::EXPIRY, &expiry.bytes());
-    put(r, Field::TOKEN, fresh);
-    put(r, Field::KEY, key);
+    Field::EXPIRY.put(r, &expiry.bytes());
+    Field::TOKEN.put(r, fresh);
+    Field::KEY.put(r, key);
 }

@@ -4,3 +4,4 @@
 
 pub mod number;
 pub mod part;
+pub mod span;
