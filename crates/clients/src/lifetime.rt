@@ -31,6 +31,7 @@ impl Reference {
     }
 }
 
+#[tactic(auto, using(octets::proofs::Spans::field_read))]
 fn said(c: &[u8]) -> u64
     ensures { result ≡ lifetime_said c.now }
 {

@@ -78,6 +78,7 @@ pub fn client_at(table: &[u8], k: usize) -> &[u8]
 }
 
 // The permitted scope bits of record k.
+#[tactic(auto, using(octets::proofs::Spans::field_read))]
 pub fn permitted(table: &[u8], k: usize) -> u32
     ensures { result ≡ permitted (client table.now k) }
 {

@@ -7,12 +7,14 @@ use super::field::Head;
 use super::limit::Clock;
 use octets::number::Number;
 
+#[tactic(auto, using(octets::proofs::Spans::field_read))]
 pub fn clock(l: &[u8]) -> u64
     ensures { result ≡ clock l.now }
 {
     u64::read(Head::CLOCK.of(l))
 }
 
+#[tactic(auto, using(octets::proofs::Spans::field_read))]
 pub fn next_number(l: &[u8]) -> u64
     ensures { result ≡ next_number l.now }
 {
@@ -38,6 +40,7 @@ pub enum Timing {
 }
 
 // Check 2.
+#[tactic(auto, unfolding(crate::specs::Checks::check_time, crate::specs::Checks::untimely))]
 pub fn check(l: &[u8], time: u64) -> Timing
     ensures { result ≡ check_time l.now time }
 {

@@ -9,6 +9,7 @@ use octets::number::Number;
 use octets::part::{cut, from};
 
 // How many records there are.
+#[tactic(auto, unfolding(crate::specs::Fields::slots))]
 pub fn slots(l: &[u8]) -> usize
     ensures { result ≡ slots l.now }
 {
@@ -54,24 +55,28 @@ pub fn redirect_length(r: &[u8]) -> u8
     r[Field::LENGTH.place]
 }
 
+#[tactic(auto, using(octets::proofs::Spans::field_read))]
 pub fn scope(r: &[u8]) -> u32
     ensures { result ≡ scope r.now }
 {
     u32::read(Field::SCOPE.of(r))
 }
 
+#[tactic(auto, using(octets::proofs::Spans::field_read))]
 pub fn grant(r: &[u8]) -> u64
     ensures { result ≡ grant r.now }
 {
     u64::read(Field::GRANT.of(r))
 }
 
+#[tactic(auto, using(octets::proofs::Spans::field_read))]
 pub fn expiry(r: &[u8]) -> u64
     ensures { result ≡ expiry r.now }
 {
     u64::read(Field::EXPIRY.of(r))
 }
 
+#[tactic(auto, using(octets::proofs::Spans::field_read))]
 pub fn holder(r: &[u8]) -> u64
     ensures { result ≡ holder r.now }
 {
@@ -122,6 +127,7 @@ pub enum Life {
 }
 
 // Whether a record is expired.
+#[tactic(auto, unfolding(crate::specs::Checks::check_life))]
 pub fn check_life(r: &[u8], time: u64) -> Life
     ensures { result ≡ check_life r.now time }
 {

@@ -43,6 +43,7 @@ fn set_parties(r: &mut [u8], push: Push)
 }
 
 // A push's numbers, with the redirect's length, which is below 256 where the redirect is well formed.
+#[tactic(auto, unfolding(octets::specs::Numbers::digits))]
 fn set_numbers(r: &mut [u8], push: Push)
     ensures { r.new ≡ with_expiry push.entry.expiry (with_grant push.entry.grant (with_scope push.entry.scope (with_redirect_length (length push.entry.redirect.now) r.old))) }
 {
@@ -52,6 +53,7 @@ fn set_numbers(r: &mut [u8], push: Push)
     Field::EXPIRY.put(r, &push.expiry.bytes());
 }
 
+#[tactic(auto, unfolding(crate::specs::Write::pushed))]
 pub fn pushed(r: &mut [u8], push: Push)
     ensures { r.new ≡ pushed push.entry.scope push.entry.grant push.entry.expiry push.entry.client.now push.entry.challenge.now push.entry.fresh.now push.entry.redirect.now r.old }
 {
@@ -60,6 +62,7 @@ pub fn pushed(r: &mut [u8], push: Push)
     set_parties(r, push);
 }
 
+#[tactic(auto, unfolding(crate::specs::Write::consented))]
 pub fn consented(r: &mut [u8], expiry: u64, holder: u64, fresh: &[u8; 32])
     ensures { r.new ≡ consented expiry holder fresh.now r.old }
 {
@@ -69,6 +72,7 @@ pub fn consented(r: &mut [u8], expiry: u64, holder: u64, fresh: &[u8; 32])
     Field::VALUE.put(r, fresh);
 }
 
+#[tactic(auto, unfolding(crate::specs::Write::redeemed))]
 pub fn redeemed(r: &mut [u8], expiry: u64, fresh: &[u8; 32], key: &[u8; 32])
     ensures { r.new ≡ redeemed expiry fresh.now key.now r.old }
 {

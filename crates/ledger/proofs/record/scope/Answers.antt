@@ -1,7 +1,0 @@
-use Rattle.std.proofs.Common.{◌∙◌}
-use Rattle.octets.proofs.Spans.{field_read}
-use Rattle.ledger.specs.Fields.{scope_span}
-use Rattle.ledger.proofs.record.scope.Goals as goal
-
-pub returns : goal.returns
-returns c = c.read.ensures ∙ field_read scope_span c.args.r.now _ c.of.ensures
