@@ -13,6 +13,7 @@ pub enum Value {
 }
 
 // Whether the record holds v, as its value or as its token.
+#[tactic(auto, unfolding(crate::specs::Sound::holds))]
 pub fn holds(v: &[u8], r: &[u8]) -> bool
     ensures { result ≡ holds v.now r.now }
 {

@@ -38,10 +38,10 @@ impl State {
 fn byte(r: &[u8]) -> u8
     ensures { result ≡ state r.now }
 {
-    if r.len() <= Field::STATE {
+    if r.len() <= Field::STATE.place {
         return 0;
     }
-    r[Field::STATE]
+    r[Field::STATE.place]
 }
 
 // Whether the record is in this state.

@@ -20,7 +20,7 @@ fn is_redirect_sound(r: &Record) -> bool
     if !(Redirect::LEAST..=Redirect::MOST).contains(&n) {
         return false;
     }
-    let Form::Well = Redirect::check(cut(r, Field::REDIRECT, n)) else {
+    let Form::Well = Redirect::check(cut(r, Field::REDIRECT.place, n)) else {
         return false;
     };
     is_zero(from(redirect_field(r), n))
@@ -30,8 +30,8 @@ fn is_redirect_sound(r: &Record) -> bool
 fn is_numbers_sound(r: &Record, next: u64) -> bool
     ensures { result ≡ numbers_sound next r.now }
 {
-    is_zero(&r[Field::GAP_ONE..Field::SCOPE])
-        && is_zero(&r[Field::GAP_TWO..Field::VALUE])
+    is_zero(Field::GAP_ONE.of(r))
+        && is_zero(Field::GAP_TWO.of(r))
         && (1..next).contains(&grant(r))
         && scope(r) != 0
         && expiry(r) < Expiry::LIMIT
