@@ -114,6 +114,7 @@ pub fn values_apart(records: &[Record]) -> bool
 {
     let mut clash = false;
     'search: for (i, r) in records.iter().enumerate() {
+        // Value and token in one look.
         if is_zero(&r[Field::VALUE.place..Field::KEY.place]) {
             continue;
         }
