@@ -67,7 +67,8 @@ pub(crate) fn entries(table: &[u8]) -> &[Record]
     table.as_chunks::<{ Client::SIZE }>().0
 }
 
-// Record k. The place is computed only where it cannot pass the end.
+// Record k. The place is computed only where it cannot pass the end. Table and place are two parameters, here and in permitted: the
+// calls hold the place, and the table is lent to them.
 pub fn client_at(table: &[u8], k: usize) -> &[u8]
     ensures { result.now ≡ client table.now k }
 {

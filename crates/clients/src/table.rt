@@ -64,7 +64,8 @@ fn same_id(c: &Record, d: &Record) -> bool
     same(Field::ID.of(c), Field::ID.of(d))
 }
 
-// Each pair of records is looked at, up to the first clash.
+// Each pair of records is looked at, up to the first clash. A search of its own, as soundness has two: document 01 wants them searches left by a label, and
+// one that is generic in the clash would hide what is compared.
 fn ids_distinct(entries: &[Record]) -> bool
     ensures { result ≡ apart same_id entries.now }
 {

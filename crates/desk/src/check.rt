@@ -22,7 +22,7 @@ pub enum Test {
     Failed,
 }
 
-// A check fails where its row's condition holds.
+// A check fails where its row's condition holds. No From<bool>: a name has to say which way it goes.
 fn fails_when(fails: bool) -> Test
     ensures { result ≡ fails_when fails }
 {

@@ -16,6 +16,7 @@ pub enum Form {
 }
 
 impl Form {
+    // No From<bool>: a name has to say which way it goes.
     fn of(well: bool) -> Form
         ensures { result ≡ form_if well }
     {

@@ -13,11 +13,7 @@ use octets::part::{cut, from};
 pub fn slots(l: &[u8]) -> usize
     ensures { result ≡ slots l.now }
 {
-    let n = l.len();
-    if n < Ledger::HEAD {
-        return 0;
-    }
-    (n - Ledger::HEAD) / Ledger::RECORD
+    l.len().saturating_sub(Ledger::HEAD) / Ledger::RECORD
 }
 
 pub type Record = [u8; Ledger::RECORD];
@@ -33,7 +29,7 @@ pub fn records(l: &[u8]) -> &[Record]
 pub fn address(k: usize) -> usize
     ensures { result ≡ address k % 2 ^ 64 }
 {
-    std::num::wrapping_add_usize(Ledger::HEAD, k << Ledger::RECORD_BITS)
+    Ledger::HEAD.wrapping_add(k << Ledger::RECORD_BITS)
 }
 
 // Record k, or what there is of it.
@@ -46,13 +42,11 @@ pub fn at(l: &[u8], k: usize) -> &[u8]
     cut(l, address(k), Ledger::RECORD)
 }
 
+// The fields, each by the name that document 01 gives it: a function for any field would leave its callers to name place and width.
 pub fn redirect_length(r: &[u8]) -> u8
     ensures { result ≡ redirect_length r.now }
 {
-    if r.len() <= Field::LENGTH.place {
-        return 0;
-    }
-    r[Field::LENGTH.place]
+    r.get(Field::LENGTH.place).copied().unwrap_or(0)
 }
 
 #[tactic(auto, using(octets::proofs::Spans::field_read))]

@@ -15,6 +15,7 @@ use std::io::Read;
 // n bytes that is there, and any other line is played on it. Answers the length of the ledger afterwards.
 fn turn(rt: &impl Print, line: &[u8], space: &mut [u8], n: usize) -> io::Result<usize> {
     if line.starts_with(b"ledger") {
+        // By `as`: std has no From between u64 and usize.
         let length = words::number(line, 1) as usize;
         if let Some(ledger) = space.get_mut(..length) {
             ledger.fill(words::letter(line, 2));

@@ -34,7 +34,8 @@ fn push_record(r: &mut [u8], push: Push) -> Answer
     Answer::of(r)
 }
 
-// What is written once the record is found and all checks have passed: record k, which is lent on, the next number and the clock.
+// What is written once the record is found and all checks have passed: record k, which is lent on, the next number and the clock. That k is a
+// place of the ledger lent is no fact that a type of places could hold.
 fn push_at(ledger: &mut [u8], k: usize, time: u64, push: Push) -> Answer
     requires { (k < slots ledger.old) × (push.grant < last_number) }
     ensures { left result ledger.new ≡ entered ledger.old time k push.entry.grant (pushed push.entry.scope push.entry.grant push.entry.expiry push.entry.client.now push.entry.challenge.now push.entry.fresh.now push.entry.redirect.now (rec ledger.old k)) }

@@ -58,6 +58,7 @@ fn is_used_sound(r: &Record, next: u64) -> bool
     is_numbers_sound(r, next) && is_bytes_sound(r)
 }
 
+// Two, of one line each: document 01 has a sentence for either, and so has specs/.
 #[tactic(auto, unfolding(ledger::specs::Sound::no_token))]
 fn has_no_token(r: &Record) -> bool
     ensures { result ≡ no_token r.now }
