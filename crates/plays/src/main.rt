@@ -32,6 +32,7 @@ fn turn(rt: &impl Print, line: &[u8], space: &mut [u8], n: usize) -> io::Result<
     Ok(n)
 }
 
+// Like the main of verdicts but for the length that it keeps: one for both would be longer than the two.
 fn main(rt: HostRuntime) -> io::Result<()> {
     // Empty lines fill the buffer up behind a shorter script: they do nothing.
     let mut script = [0u8; 65536];
