@@ -16,7 +16,7 @@ from pathlib import Path
 sys.dont_write_bytecode = True
 from sources import ANTT_SKIP, RATTLE_COMMENT, TOP, tally, without  # noqa: E402
 
-MOST = 66
+MOST = 64
 
 
 def changes(text):

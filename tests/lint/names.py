@@ -2,7 +2,7 @@
 """What the pages point to is there: every file and name that is cited, every link, a statement in every row of PROMISES.
 
   tests/lint/names.py               read README.md, docs/*.md and docs/landings/*.md
-  tests/lint/names.py --self-test   spoil the pages in one way at a time: each must be noticed
+  tests/lint/names.py --self-test   spoil the pages in one way at a time: each must be noticed; and look for names in a made-up source
 
 - A citation is `path/to/file: name, name`, in backticks; each name counts as one test. A path alone, `crates/NAME/src`, must exist.
   In .rt a name is a function, struct, enum, trait, constant or case (`Type::name` is a name of that type's file, in an impl of a trait too:
@@ -227,11 +227,35 @@ def faults():
     yield "a heading that is not there", PROMISES, text.replace(seen.group(), 'see "Nowhere"', 1)
 
 
+SAMPLE = """pub struct Free { at: u8 }
+pub enum State {
+    Pushed = 1,
+    Redeemed = 2,
+}
+impl From<State> for u8 {
+    fn from(s: State) -> u8 { s as u8 }
+}
+impl<'a> Held<'a> {
+    pub fn first<F: Fn(u8) -> u8>(f: F) -> u8 { 1 }
+}
+pub trait Number: Copy {
+    fn read(s: &[u8]) -> Self;
+}
+impl Number for u16 {
+    fn low(s: &[u8]) -> u16 { 1 }
+}
+"""
+DEFINED = {"Free", "State", "State::Pushed", "State::Redeemed", "u8::from", "Held::first", "first", "Number", "Number::read", "u16::low"}
+UNDEFINED = {"Pushed::from", "State::from", "State::Free", "u8::read", "u16::read", "Number::low", "Held::read", "Free::at", "u8::low"}
+
+
 def self_test():
     failures = [problem for problem in results() if problem]
     if failures:
         return tally(0, ["the pages are not in order before they are spoilt", *failures])
-    passed = 0
+    failures = [f"the sample does not define {name}" for name in sorted(DEFINED) if not in_rattle(SAMPLE, name)]
+    failures += [f"the sample defines {name}" for name in sorted(UNDEFINED) if in_rattle(SAMPLE, name)]
+    passed = len(DEFINED | UNDEFINED) - len(failures)
     for said, page, text in list(faults()):
         spoilt[page] = text
         noticed = any(of_page(page))

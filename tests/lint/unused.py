@@ -9,11 +9,14 @@
 Names are the definitions, laws, records, data types and rulesets of specs/ and proofs/, and the functions, structs, enums, traits and
 constants of src/. A trait's function and those of its impls in the same file are one name; what else an impl of a trait says is text of the
 trait, and the whole impl of a trait of another file, as of From, is text of its type. A name is reached from a root, or from a name that is
-reached and has it in its text; its own text does not count, nor does an import. Roots are `main`, exported functions, the answers and invariants of functions (of a type `goal.NAME`, goal being a function's Goals or
-Given; `NAME-spec` in a Proof.antt), what a page of docs/ or README cites or quotes, and a function that takes nothing and answers a constant, whose contract ties it to its definition. The table of docs/OUTCOMES.md is
-no root: it is written from the sources. Fields and variants are not looked at; where a page cites a field, it cites its record.
+reached and has it in its text; its own text does not count, nor does an import. Roots are `main`, exported functions, the answers and
+invariants of functions (of a type `goal.NAME`, goal being a function's Goals or Given; `NAME-spec` in a Proof.antt), what a page of docs/ or
+README cites or quotes, and a function that takes nothing and answers a constant, whose contract ties it to its definition. The table of
+docs/OUTCOMES.md is no root: it is written from the sources. Fields and variants are not looked at; where a page cites a field, it cites its
+record.
 A word stands for a name wherever it is no projection, so that a local variable can hide an unused name, and a finding is one.
-An import is unused where no text of its file has the name, nor a function of a trait that is imported (of std's, METHODS); a crate of crates.txt where no source of the other has it.
+An import is unused where no text of its file has the name, nor a function of a trait that is imported (of std's, METHODS); a crate of
+crates.txt where no source of the other has it.
 """
 import argparse
 import contextlib

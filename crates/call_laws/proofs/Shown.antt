@@ -10,7 +10,8 @@ use lib.Seq.{take-add, drop_at}
 use borrow.Author.Tests.{ltb-false}
 use Rattle.octets.specs.Numbers.{num}
 use Rattle.octets.specs.Parts.{part, put}
-use Rattle.octets.specs.Spans.{Span, field}
+use Rattle.octets.specs.Spans.{field}
+use Rattle.octets.specs.declared.span.Span.{Span}
 use Rattle.octets.proofs.Parts.{length_put, put_same, part_length}
 use Rattle.ledger.specs.Limits.{record_size}
 use Rattle.ledger.specs.Fields.{rec, state_number, state_span, scope_span, scope, grant_span, grant, expiry_span, holder_span, value_span, redirect_field}

@@ -4,12 +4,11 @@ use native.Mathlib.Omega.{arith}
 use mathlib.Core.Path.{◌≡◌, sym, ap, ◌∙◌}
 use mathlib.Core.Bool.{Bool, true}
 use mathlib.Core.List.{List, []}
-use lib.ListN.{length, get_or, take, drop, drop_of_length-le}
-use lib.Seq.{take-take}
+use lib.ListN.{length, get_or, drop_of_length-le}
 use Rattle.octets.specs.Lists.{every}
-use Rattle.octets.specs.Numbers.{num}
 use Rattle.octets.specs.Parts.{part}
-use Rattle.octets.specs.Spans.{Span, field}
+use Rattle.octets.specs.Spans.{field}
+use Rattle.octets.specs.declared.span.Span.{Span}
 use Rattle.octets.proofs.Lists.{every_at, every_of}
 use Rattle.octets.proofs.Parts.{part_length}
 use Rattle.octets.proofs.Tabulate.{length_tabulate, get_d_tabulate}
@@ -42,12 +41,6 @@ pub client_past : (t : List ℕ) (k : ℕ) → clients t < k → part t (length 
 client_past t k h =
     let w : length t ≤ length t = omega arith in
     rw (drop_of_length-le t w) (sym (client_none t k h))
-
--- the number of a field, read off the bytes cut out for it
-pub field_read : (w : Span) (c s : List ℕ) → s ≡ field w c → num (take w.width s) ≡ num (field w c)
-field_read w c s e =
-    let n = w.width in
-    ap (λ (x : List ℕ). num (take n x)) e ∙ ap num (take-take n n (drop w.place c) (omega arith))
 
 -- ---- a test of all records
 

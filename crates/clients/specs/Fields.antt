@@ -3,7 +3,8 @@ use Rattle.std.specs.Prelude.{ℕ, ◌*◌, ◌/◌, List, length}
 use Rattle.octets.specs.Lists.{tabulate}
 use Rattle.octets.specs.Numbers.{num}
 use Rattle.octets.specs.Parts.{part}
-use Rattle.octets.specs.Spans.{Span, span, field}
+use Rattle.octets.specs.Spans.{span, field}
+use Rattle.octets.specs.declared.span.Span.{Span}
 use Rattle.clients.specs.Limits.{client_size}
 
 -- how many whole records a table has

@@ -5,20 +5,20 @@ ghost use Rattle.clients.specs.Known.{has_id, has_key, known};
 
 use super::record;
 use super::record::Field;
-use octets::part::{cut, same};
+use octets::part::same;
 
 #[tactic(auto, unfolding(crate::specs::Known::has_id))]
 fn has_id(c: &[u8], id: &[u8; 16]) -> bool
     ensures { result ≡ has_id id.now c.now }
 {
-    same(cut(c, Field::ID, Field::ID_WIDTH), id)
+    same(Field::ID.of(c), id)
 }
 
 #[tactic(auto, unfolding(crate::specs::Known::has_key))]
 fn has_key(c: &[u8], key: &[u8; 32]) -> bool
     ensures { result ≡ has_key key.now c.now }
 {
-    same(cut(c, Field::AUTH_KEY, Field::AUTH_KEY_WIDTH), key)
+    same(Field::AUTH_KEY.of(c), key)
 }
 
 // The place of the first record with this id.

@@ -7,7 +7,6 @@ ghost use Rattle.clients.specs.Sound.{lifetime_fits};
 
 use super::record::Field;
 use octets::number::Number;
-use octets::part::cut;
 
 #[derive(Clone, Copy)]
 pub struct Reference {}
@@ -32,10 +31,11 @@ impl Reference {
     }
 }
 
+#[tactic(auto, using(octets::proofs::Spans::field_read))]
 fn said(c: &[u8]) -> u64
     ensures { result ≡ lifetime_said c.now }
 {
-    u64::from(u16::read(cut(c, Field::LIFETIME, Field::LIFETIME_WIDTH)))
+    u64::from(u16::read(Field::LIFETIME.of(c)))
 }
 
 #[tactic(auto, unfolding(crate::specs::Sound::lifetime_fits))]

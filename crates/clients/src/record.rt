@@ -5,6 +5,7 @@ ghost use Rattle.clients.specs.Fields.{clients, client, entries, permitted};
 
 use octets::number::Number;
 use octets::part::cut;
+use octets::span::Span;
 
 #[derive(Clone, Copy)]
 pub struct Client {}
@@ -19,30 +20,35 @@ impl Client {
     }
 }
 
-// Where a field begins, and how many bytes it has.
+// Where the fields of a record are.
 #[derive(Clone, Copy)]
 pub struct Field {}
 
 impl Field {
-    pub const ID: usize = 0;
+    pub const ID: Span = Span {
+        place: 0,
+        width: 16,
+    };
 
-    pub const ID_WIDTH: usize = 16;
+    pub const AUTH_KEY: Span = Span {
+        place: 16,
+        width: 32,
+    };
 
-    pub const AUTH_KEY: usize = 16;
+    pub const PERMITTED: Span = Span {
+        place: 48,
+        width: 4,
+    };
 
-    pub const AUTH_KEY_WIDTH: usize = 32;
+    pub const LIFETIME: Span = Span {
+        place: 52,
+        width: 2,
+    };
 
-    pub const PERMITTED: usize = 48;
-
-    pub const PERMITTED_WIDTH: usize = 4;
-
-    pub const LIFETIME: usize = 52;
-
-    pub const LIFETIME_WIDTH: usize = 2;
-
-    pub const REST: usize = 54;
-
-    pub const REST_WIDTH: usize = 10;
+    pub const REST: Span = Span {
+        place: 54,
+        width: 10,
+    };
 }
 
 // How many whole records the table has.
@@ -61,7 +67,8 @@ pub(crate) fn entries(table: &[u8]) -> &[Record]
     table.as_chunks::<{ Client::SIZE }>().0
 }
 
-// Record k. The place is computed only where it cannot pass the end.
+// Record k. The place is computed only where it cannot pass the end. Table and place are two parameters, here and in permitted: the
+// calls hold the place, and the table is lent to them.
 pub fn client_at(table: &[u8], k: usize) -> &[u8]
     ensures { result.now ≡ client table.now k }
 {
@@ -72,12 +79,9 @@ pub fn client_at(table: &[u8], k: usize) -> &[u8]
 }
 
 // The permitted scope bits of record k.
+#[tactic(auto, using(octets::proofs::Spans::field_read))]
 pub fn permitted(table: &[u8], k: usize) -> u32
     ensures { result ≡ permitted (client table.now k) }
 {
-    u32::read(cut(
-        client_at(table, k),
-        Field::PERMITTED,
-        Field::PERMITTED_WIDTH,
-    ))
+    u32::read(Field::PERMITTED.of(client_at(table, k)))
 }

@@ -6,8 +6,9 @@ ghost use Rattle.clients.specs.Sound.{length_right, sound_record, same_id, check
 
 use super::record::{Client, Field, Record};
 use super::{lifetime, record};
-use octets::part::{cut, is_zero, same};
+use octets::part::{is_zero, same};
 
+// An enum: document 01 has each check's answer taken apart by let else, and the case says what was found.
 #[derive(Clone, Copy)]
 pub enum Table {
     Sound,
@@ -44,10 +45,10 @@ fn length_right(table: &[u8]) -> bool
 fn sound_record(c: &Record) -> bool
     ensures { result ≡ sound_record c.now }
 {
-    !is_zero(cut(c, Field::ID, Field::ID_WIDTH))
-        && !is_zero(cut(c, Field::AUTH_KEY, Field::AUTH_KEY_WIDTH))
+    !is_zero(Field::ID.of(c))
+        && !is_zero(Field::AUTH_KEY.of(c))
         && lifetime::fits(c)
-        && is_zero(cut(c, Field::REST, Field::REST_WIDTH))
+        && is_zero(Field::REST.of(c))
 }
 
 fn sound_records(entries: &[Record]) -> bool
@@ -60,10 +61,11 @@ fn sound_records(entries: &[Record]) -> bool
 fn same_id(c: &Record, d: &Record) -> bool
     ensures { result ≡ same_id c.now d.now }
 {
-    same(&c[..Field::ID_WIDTH], &d[..Field::ID_WIDTH])
+    same(Field::ID.of(c), Field::ID.of(d))
 }
 
-// Each pair of records is looked at, up to the first clash.
+// Each pair of records is looked at, up to the first clash. A search of its own, as soundness has two: document 01 wants them searches left by a label, and
+// one that is generic in the clash would hide what is compared.
 fn ids_distinct(entries: &[Record]) -> bool
     ensures { result ≡ apart same_id entries.now }
 {

@@ -3,8 +3,7 @@
 #![tactic(auto)]
 
 ghost use Rattle.std.specs.Prelude.{◌≡◌, ◌+◌, ◌<◌, length, ◌&&◌};
-ghost use Rattle.ledger.specs.Limits.{record_size};
-ghost use Rattle.ledger.specs.Limits.{clock_limit};
+ghost use Rattle.ledger.specs.Limits.{record_size, clock_limit};
 ghost use Rattle.ledger.specs.Fields.{grant, slots};
 ghost use Rattle.ledger.specs.Checks.{taken};
 ghost use Rattle.ledger.specs.Write.{consented, free};
@@ -57,7 +56,8 @@ fn check_fresh(ledger: &[u8], yes: bool, fresh: &[u8; 32]) -> Test
     Test::Passed
 }
 
-// Yes: what is written once the record is found and all checks have passed: record k, which is lent on, the clock, and the output.
+// Yes: what is written once the record is found and all checks have passed: record k, which is lent on, the clock, and the output. Yes and no are a function
+// each, as each is a definition; that k is a place of the ledger lent is no fact that a type of places could hold.
 fn consent_at(
     ledger: &mut [u8],
     k: usize,

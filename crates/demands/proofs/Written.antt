@@ -7,7 +7,8 @@ use mathlib.Core.List.{List, [], ◌∷◌, ◌++◌}
 use lib.Dec.{lit≤}
 use lib.ListN.{length, drop, length-append, length-drop}
 use Rattle.octets.specs.Parts.{put, blank, zeros}
-use Rattle.octets.specs.Spans.{Span, field}
+use Rattle.octets.specs.Spans.{field}
+use Rattle.octets.specs.declared.span.Span.{Span}
 use Rattle.octets.proofs.Parts.{part_length, zeros_eq}
 use Rattle.octets.proofs.Bytes.{zeros_part, zeros_drop}
 use Rattle.forms.specs.Limits.{redirect_most}

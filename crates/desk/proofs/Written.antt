@@ -9,6 +9,7 @@ use lib.Dec.{eqb, ltb}
 use borrow.Author.Tests.{leb-false, eqb-false}
 use lib.ListN.{length}
 use Rattle.octets.specs.Parts.{part, splice, blank}
+use Rattle.octets.specs.Lists.{place}
 use Rattle.octets.proofs.Lists.{place_lt}
 use Rattle.ledger.specs.Limits.{record_size, code_lifetime, token_lifetime, last_number}
 use Rattle.ledger.specs.Fields.{address, rec, slots, records, clock, next_number, grant, redirect_length, with_record, with_next, with_clock}
@@ -36,6 +37,10 @@ found_inside q l k e =
     let s = found_told q l (Some k) e in
     let p = place_lt q (records l) s in
     rw (← found_place q l k e, ← length_records l) p
+
+-- and the record there is the one of that place
+pub record_is : (q : List ℕ → Bool) (l : List ℕ) {k : ℕ} {r : List ℕ} → found q l ≡ Some k → r ≡ rec l k → r ≡ rec l (place q (records l))
+record_is q l f e = e ∙ ap (rec l) (sym (found_place q l _ f))
 
 or_right : (a b : Bool) → (a || b) ≡ false → b ≡ false
 or_right true b e = let z : ◌≡◌ {A = ℕ} 0 1 = absurd (true_false e) in absurd (omega arith)

@@ -37,6 +37,8 @@ impl From<Refusal> for u8 {
     }
 }
 
+// The numbers of the answers, here and below, stay numbers: the table, demands 1 to 3 and the C interface have each answer as a number with values beside it,
+// zeros where it is refused. The constructors stand on the types of answers, as document 01 wants them: of a record, of what was freed, refused.
 #[derive(Clone, Copy)]
 pub struct Answer {
     pub number: u8,

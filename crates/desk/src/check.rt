@@ -15,13 +15,14 @@ use ledger::state::{State, is_in};
 use octets::part::{is_zero, same};
 
 // What a check of the desk's own answers.
+// An enum: document 01 has each check's answer taken apart by let else, and the case says what was found.
 #[derive(Clone, Copy)]
 pub enum Test {
     Passed,
     Failed,
 }
 
-// A check fails where its row's condition holds.
+// A check fails where its row's condition holds. No From<bool>: a name has to say which way it goes.
 fn fails_when(fails: bool) -> Test
     ensures { result ≡ fails_when fails }
 {

@@ -16,7 +16,7 @@ fn is_free(r: &Record) -> bool
     is_in(r, State::Free)
 }
 
-// Whether the record has this value and this client id.
+// Whether the record has this value and this client id: two parameters here and below, as the calls' checks name them.
 #[tactic(auto, unfolding(ledger::specs::Checks::is_with))]
 fn is_with(r: &Record, v: &[u8; 32], id: &[u8; 16]) -> bool
     ensures { result ≡ is_with v.now id.now r.now }

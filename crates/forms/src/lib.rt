@@ -8,6 +8,7 @@ ghost use Rattle.forms.specs.Forms.{form_if, redirect_form, challenge_form, veri
 
 mod class;
 
+// An enum: document 01 has each check's answer taken apart by let else, and the case says what was found.
 #[derive(Clone, Copy)]
 pub enum Form {
     Well,
@@ -15,6 +16,7 @@ pub enum Form {
 }
 
 impl Form {
+    // No From<bool>: a name has to say which way it goes.
     fn of(well: bool) -> Form
         ensures { result ≡ form_if well }
     {

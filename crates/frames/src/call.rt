@@ -20,6 +20,8 @@ use octets::number::Number;
 use octets::part::{copy, cut, from};
 use wire::kind::{ClientId, Decide, Key, Kind, Push, Resource, Sweep, Token, Value};
 
+// A frame is as long as its kind asks, and pushes and tokens have a rest behind it: no array type holds it, so each call asks for its width.
+
 // The field of N bytes that begins at an index.
 #[tactic(auto, using(octets::proofs::Parts::laid_all, crate::proofs::Answers::cut_length))]
 fn field<const N: usize>(f: &[u8], at: usize) -> [u8; N]

@@ -48,7 +48,7 @@ fn append(f: &[u8], used: &mut Used, table: &mut [u8; Buffer::TABLE]) -> Bytes
     Bytes::number(Answer::DONE)
 }
 
-// A frame, or what is none.
+// A frame, or what is none. A match, here and in call: each kind takes other buffers, and closures would have to hold all of them.
 pub fn serve(
     f: &[u8],
     used: &mut Used,

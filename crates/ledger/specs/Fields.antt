@@ -3,7 +3,8 @@ use Rattle.std.specs.Prelude.{ℕ, zero, suc, ◌+◌, ◌-◌, ◌*◌, ◌/◌
 use Rattle.octets.specs.Lists.{tabulate}
 use Rattle.octets.specs.Numbers.{num, digits}
 use Rattle.octets.specs.Parts.{part, splice}
-use Rattle.octets.specs.Spans.{Span, span, field, with_field}
+use Rattle.octets.specs.Spans.{span, field, with_field}
+use Rattle.octets.specs.declared.span.Span.{Span}
 use Rattle.ledger.specs.Limits.{head_size, record_size}
 use Rattle.ledger.specs.declared.state.State.{State}
 use Rattle.ledger.specs.declared.state.State.TheVariants.{Free, Pushed, Consented, Redeemed}

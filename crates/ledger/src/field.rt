@@ -1,56 +1,76 @@
-// Where the fields of the head and of a record begin; the width of those that are read whole. A field ends where the next one begins.
+// Where the fields of the head and of a record are.
+use octets::span::Span;
+
 #[derive(Clone, Copy)]
 pub struct Head {}
 
 impl Head {
-    pub const CLOCK: usize = 0;
+    pub const CLOCK: Span = Span { place: 0, width: 8 };
 
-    pub const NEXT: usize = 8;
+    pub const NEXT: Span = Span { place: 8, width: 8 };
 
-    pub const ZERO: usize = 16;
+    pub const ZERO: Span = Span {
+        place: 16,
+        width: 16,
+    };
 }
 
 #[derive(Clone, Copy)]
 pub struct Field {}
 
 impl Field {
-    pub const STATE: usize = 0;
+    pub const STATE: Span = Span { place: 0, width: 1 };
 
-    pub const LENGTH: usize = 1;
+    pub const LENGTH: Span = Span { place: 1, width: 1 };
 
-    pub const GAP_ONE: usize = 2;
+    pub const GAP_ONE: Span = Span { place: 2, width: 2 };
 
-    pub const SCOPE: usize = 4;
+    pub const SCOPE: Span = Span { place: 4, width: 4 };
 
-    pub const GRANT: usize = 8;
+    pub const GRANT: Span = Span { place: 8, width: 8 };
 
-    pub const EXPIRY: usize = 16;
+    pub const EXPIRY: Span = Span {
+        place: 16,
+        width: 8,
+    };
 
-    pub const HOLDER: usize = 24;
+    pub const HOLDER: Span = Span {
+        place: 24,
+        width: 8,
+    };
 
-    pub const CLIENT: usize = 32;
+    pub const CLIENT: Span = Span {
+        place: 32,
+        width: 16,
+    };
 
-    pub const CLIENT_WIDTH: usize = 16;
+    pub const CHALLENGE: Span = Span {
+        place: 48,
+        width: 43,
+    };
 
-    pub const CHALLENGE: usize = 48;
+    pub const GAP_TWO: Span = Span {
+        place: 91,
+        width: 5,
+    };
 
-    pub const CHALLENGE_WIDTH: usize = 43;
+    pub const VALUE: Span = Span {
+        place: 96,
+        width: 32,
+    };
 
-    pub const GAP_TWO: usize = 91;
+    pub const TOKEN: Span = Span {
+        place: 128,
+        width: 32,
+    };
 
-    pub const VALUE: usize = 96;
+    pub const KEY: Span = Span {
+        place: 160,
+        width: 32,
+    };
 
-    pub const VALUE_WIDTH: usize = 32;
-
-    pub const TOKEN: usize = 128;
-
-    pub const TOKEN_WIDTH: usize = 32;
-
-    pub const KEY: usize = 160;
-
-    pub const KEY_WIDTH: usize = 32;
-
-    pub const REDIRECT: usize = 192;
-
-    pub const REDIRECT_WIDTH: usize = 64;
+    pub const REDIRECT: Span = Span {
+        place: 192,
+        width: 64,
+    };
 }

@@ -1,4 +1,4 @@
-// Ledger: where its fields are, its limits and lifetimes, when it is sound, finding a record, writing one (document 01, section "Ledger").
+// Ledger: where its fields are, its limits and lifetimes, when it is sound, sweeping it, writing a record (document 01, section "Ledger").
 // It rests on octets and forms; the calls of the desk rest on it. Every public function takes any slice.
 #![tactic(auto)]
 

@@ -9,14 +9,11 @@ use octets::number::Number;
 use octets::part::{cut, from};
 
 // How many records there are.
+#[tactic(auto, unfolding(crate::specs::Fields::slots))]
 pub fn slots(l: &[u8]) -> usize
     ensures { result ≡ slots l.now }
 {
-    let n = l.len();
-    if n < Ledger::HEAD {
-        return 0;
-    }
-    (n - Ledger::HEAD) / Ledger::RECORD
+    l.len().saturating_sub(Ledger::HEAD) / Ledger::RECORD
 }
 
 pub type Record = [u8; Ledger::RECORD];
@@ -32,7 +29,7 @@ pub fn records(l: &[u8]) -> &[Record]
 pub fn address(k: usize) -> usize
     ensures { result ≡ address k % 2 ^ 64 }
 {
-    std::num::wrapping_add_usize(Ledger::HEAD, k << Ledger::RECORD_BITS)
+    Ledger::HEAD.wrapping_add(k << Ledger::RECORD_BITS)
 }
 
 // Record k, or what there is of it.
@@ -45,76 +42,79 @@ pub fn at(l: &[u8], k: usize) -> &[u8]
     cut(l, address(k), Ledger::RECORD)
 }
 
+// The fields, each by the name that document 01 gives it: a function for any field would leave its callers to name place and width.
 pub fn redirect_length(r: &[u8]) -> u8
     ensures { result ≡ redirect_length r.now }
 {
-    if r.len() <= Field::LENGTH {
-        return 0;
-    }
-    r[Field::LENGTH]
+    r.get(Field::LENGTH.place).copied().unwrap_or(0)
 }
 
+#[tactic(auto, using(octets::proofs::Spans::field_read))]
 pub fn scope(r: &[u8]) -> u32
     ensures { result ≡ scope r.now }
 {
-    u32::read(from(r, Field::SCOPE))
+    u32::read(Field::SCOPE.of(r))
 }
 
+#[tactic(auto, using(octets::proofs::Spans::field_read))]
 pub fn grant(r: &[u8]) -> u64
     ensures { result ≡ grant r.now }
 {
-    u64::read(from(r, Field::GRANT))
+    u64::read(Field::GRANT.of(r))
 }
 
+#[tactic(auto, using(octets::proofs::Spans::field_read))]
 pub fn expiry(r: &[u8]) -> u64
     ensures { result ≡ expiry r.now }
 {
-    u64::read(from(r, Field::EXPIRY))
+    u64::read(Field::EXPIRY.of(r))
 }
 
+#[tactic(auto, using(octets::proofs::Spans::field_read))]
 pub fn holder(r: &[u8]) -> u64
     ensures { result ≡ holder r.now }
 {
-    u64::read(from(r, Field::HOLDER))
+    u64::read(Field::HOLDER.of(r))
 }
 
 pub fn client(r: &[u8]) -> &[u8]
     ensures { result.now ≡ client r.now }
 {
-    cut(r, Field::CLIENT, Field::CLIENT_WIDTH)
+    Field::CLIENT.of(r)
 }
 
 pub fn challenge(r: &[u8]) -> &[u8]
     ensures { result.now ≡ challenge r.now }
 {
-    cut(r, Field::CHALLENGE, Field::CHALLENGE_WIDTH)
+    Field::CHALLENGE.of(r)
 }
 
 pub fn value(r: &[u8]) -> &[u8]
     ensures { result.now ≡ value r.now }
 {
-    cut(r, Field::VALUE, Field::VALUE_WIDTH)
+    Field::VALUE.of(r)
 }
 
 pub fn token(r: &[u8]) -> &[u8]
     ensures { result.now ≡ token r.now }
 {
-    cut(r, Field::TOKEN, Field::TOKEN_WIDTH)
+    Field::TOKEN.of(r)
 }
 
 pub fn bound_key(r: &[u8]) -> &[u8]
     ensures { result.now ≡ bound_key r.now }
 {
-    cut(r, Field::KEY, Field::KEY_WIDTH)
+    Field::KEY.of(r)
 }
 
 // The redirect with the zeros behind it.
 pub fn redirect_field(r: &[u8]) -> &[u8]
     ensures { result.now ≡ redirect_field r.now }
 {
-    cut(r, Field::REDIRECT, Field::REDIRECT_WIDTH)
+    Field::REDIRECT.of(r)
 }
 
+// An enum: document 01 has each check's answer taken apart by let else, and the case says what was found.
 #[derive(Clone, Copy)]
 pub enum Life {
     Alive,
@@ -122,6 +122,7 @@ pub enum Life {
 }
 
 // Whether a record is expired.
+#[tactic(auto, unfolding(crate::specs::Checks::check_life))]
 pub fn check_life(r: &[u8], time: u64) -> Life
     ensures { result ≡ check_life r.now time }
 {

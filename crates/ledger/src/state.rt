@@ -21,7 +21,7 @@ impl From<State> for u8 {
 }
 
 impl State {
-    // What the state byte says, where there is such a state.
+    // What the state byte says, where there is such a state. No TryFrom: a record is read, which may have no byte, and there is no error to tell.
     pub fn of(r: &[u8]) -> Option<State>
         ensures { result ≡ state_of r.now }
     {
@@ -38,10 +38,7 @@ impl State {
 fn byte(r: &[u8]) -> u8
     ensures { result ≡ state r.now }
 {
-    if r.len() <= Field::STATE {
-        return 0;
-    }
-    r[Field::STATE]
+    r.get(Field::STATE.place).copied().unwrap_or(0)
 }
 
 // Whether the record is in this state.

@@ -22,7 +22,7 @@ fn is_due(r: &[u8], time: u64) -> bool
     !is_in(r, State::Free) && expiry(r) <= time
 }
 
-// Frees record k if it is expired.
+// Frees record k if it is expired. That k is a place of the ledger lent is no fact that a type of places could hold.
 fn sweep_at(l: &mut [u8], k: usize, time: u64)
     requires { k < slots l.old }
     ensures { l.new ≡ with_record l.old k (swept_record time (rec l.old k)) }
@@ -55,6 +55,7 @@ pub fn sweep(l: &mut [u8], time: u64) -> Freed
         consented: freed_of(l, State::Consented, time),
         redeemed: freed_of(l, State::Redeemed, time),
     };
+    // By place: of a slice lent on in mutable chunks std does not say what it ends as.
     for k in 0..slots(l) {
         sweep_at(l, k, time);
     }

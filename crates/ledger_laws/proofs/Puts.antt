@@ -11,7 +11,8 @@ use lib.Seq.{get_or-take, get_or-drop, take_all, take-take, take-append-le}
 use borrow.Author.Tests.{leb-true, eqb-true}
 use Rattle.octets.specs.Parts.{part, laid, put}
 use Rattle.octets.specs.Numbers.{digits}
-use Rattle.octets.specs.Spans.{Span, field, with_field}
+use Rattle.octets.specs.Spans.{field, with_field}
+use Rattle.octets.specs.declared.span.Span.{Span}
 use Rattle.octets.proofs.Tests.{both}
 use Rattle.octets.proofs.Parts.{length_put, put_end, put_splice, put_same, put_before, put_behind}
 use Rattle.octets.proofs.Numbers.{length_digits}

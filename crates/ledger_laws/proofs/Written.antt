@@ -9,7 +9,7 @@ use lib.ListN.{length, get_or, take, drop, length-append, length-drop}
 use lib.Seq.{take_all}
 use Rattle.octets.specs.Lists.{every}
 use Rattle.octets.specs.Numbers.{num, digits}
-use Rattle.octets.specs.Spans.{Span}
+use Rattle.octets.specs.declared.span.Span.{Span}
 use Rattle.octets.proofs.Lists.{every_at}
 use Rattle.octets.proofs.Tests.{both}
 use Rattle.octets.proofs.Parts.{part_length}

@@ -7,3 +7,4 @@ pub mod Tabulate
 pub mod Chunks
 pub mod Ranges
 pub mod Bytes
+pub mod Spans

@@ -1,10 +1,7 @@
 -- The bytes of one field: where it begins and how many there are. A document that has a field at 96..128 is read as `span 96 128`.
 use Rattle.std.specs.Prelude.{ℕ, ◌-◌, List}
 use Rattle.octets.specs.Parts.{part, put}
-
-pub record Span : Type 0 where
-  pub place : ℕ
-  pub width : ℕ
+use Rattle.octets.specs.declared.span.Span.{Span}
 
 abbrev pub span : ℕ → ℕ → Span
 span a b = record { place = a; width = b - a }

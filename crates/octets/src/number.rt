@@ -31,7 +31,7 @@ pub trait Number: Copy {
     }
 }
 
-// The number of all bytes of a short slice: what is left when a field is cut off.
+// The number of all bytes of a short slice: what is left when a field is cut off. Its callers cut it to their width by `as`: std has no From for that.
 fn short(s: &[u8]) -> u64
     requires { length s.now ≤ 8 }
     ensures number { result ≡ num s.now }

@@ -2,7 +2,7 @@
 ghost use Rattle.std.specs.Prelude.{◌≡◌, length, drop};
 ghost use Rattle.octets.specs.Parts.{part, zeros, same, laid, put, blank};
 
-// The bytes of s from index a on.
+// The bytes of s from index a on. By `min`, here and below: `get(a..)` costs each call a few instructions more.
 pub fn from(s: &[u8], a: usize) -> &[u8]
     ensures { result.now ≡ drop a s.now }
 {

@@ -25,6 +25,7 @@ pub fn fail<W: Write>(to: &mut W, what: &[u8], error: io::Error) -> io::Result<(
 {
     let mut text = Cursor::new([0u8; LONGEST]);
     let _ = write!(text, "{error}");
+    // By `as`: std has no From between u64 and usize.
     let filled = text.position() as usize;
     let text = text.into_inner();
     to.write_all(what)?;

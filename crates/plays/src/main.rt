@@ -15,6 +15,7 @@ use std::io::Read;
 // n bytes that is there, and any other line is played on it. Answers the length of the ledger afterwards.
 fn turn(rt: &impl Print, line: &[u8], space: &mut [u8], n: usize) -> io::Result<usize> {
     if line.starts_with(b"ledger") {
+        // By `as`: std has no From between u64 and usize.
         let length = words::number(line, 1) as usize;
         if let Some(ledger) = space.get_mut(..length) {
             ledger.fill(words::letter(line, 2));
@@ -31,6 +32,7 @@ fn turn(rt: &impl Print, line: &[u8], space: &mut [u8], n: usize) -> io::Result<
     Ok(n)
 }
 
+// Like the main of verdicts but for the length that it keeps: one for both would be longer than the two.
 fn main(rt: HostRuntime) -> io::Result<()> {
     // Empty lines fill the buffer up behind a shorter script: they do nothing.
     let mut script = [0u8; 65536];

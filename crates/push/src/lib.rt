@@ -23,46 +23,26 @@ use ledger::limit::Ledger;
 use ledger::pool::Value;
 use ledger::record::address;
 use ledger::sound::Soundness;
+use ledger::write;
+use ledger::write::Push;
 
 // Writes a push into its record, and answers what the record then has.
-fn push_record(r: &mut [u8], scope: u32, grant: u64, expiry: u64, request: PushRequest) -> Answer
-    ensures { (r.new ≡ pushed scope grant expiry request.entry.client.now request.entry.challenge.now request.entry.fresh.now request.entry.redirect.now r.old) × (result ≡ answer_of r.new) }
+fn push_record(r: &mut [u8], push: Push) -> Answer
+    ensures { (r.new ≡ pushed push.entry.scope push.entry.grant push.entry.expiry push.entry.client.now push.entry.challenge.now push.entry.fresh.now push.entry.redirect.now r.old) × (result ≡ answer_of r.new) }
 {
-    ledger::write::pushed(
-        r,
-        scope,
-        grant,
-        expiry,
-        request.client,
-        request.challenge,
-        request.fresh,
-        request.redirect,
-    );
+    write::pushed(r, push);
     Answer::of(r)
 }
 
-// What is written once the record is found and all checks have passed: record k, which is lent on, the next number and the clock.
-fn push_at(
-    ledger: &mut [u8],
-    k: usize,
-    time: u64,
-    scope: u32,
-    number: u64,
-    expiry: u64,
-    request: PushRequest,
-) -> Answer
-    requires { (k < slots ledger.old) × (number < last_number) }
-    ensures { left result ledger.new ≡ entered ledger.old time k number (pushed scope number expiry request.entry.client.now request.entry.challenge.now request.entry.fresh.now request.entry.redirect.now (rec ledger.old k)) }
+// What is written once the record is found and all checks have passed: record k, which is lent on, the next number and the clock. That k is a
+// place of the ledger lent is no fact that a type of places could hold.
+fn push_at(ledger: &mut [u8], k: usize, time: u64, push: Push) -> Answer
+    requires { (k < slots ledger.old) × (push.grant < last_number) }
+    ensures { left result ledger.new ≡ entered ledger.old time k push.entry.grant (pushed push.entry.scope push.entry.grant push.entry.expiry push.entry.client.now push.entry.challenge.now push.entry.fresh.now push.entry.redirect.now (rec ledger.old k)) }
 {
     let a = address(k);
-    let answer = push_record(
-        &mut ledger[a..a + Ledger::RECORD],
-        scope,
-        number,
-        expiry,
-        request,
-    );
-    set_next(ledger, number + 1);
+    let answer = push_record(&mut ledger[a..a + Ledger::RECORD], push);
+    set_next(ledger, push.grant + 1);
     set_clock(ledger, time);
     answer
 }
@@ -98,13 +78,14 @@ pub fn push(ledger: &mut [u8], time: u64, table: &[u8], request: PushRequest) ->
     let Test::Passed = check::number(number) else {
         return Answer::refused(Refusal::NumbersSpent);
     };
-    push_at(
-        ledger,
-        k,
-        time,
-        bits,
-        number,
-        time + lifetime_of(client_at(table, who)),
-        request,
-    )
+    let push = Push {
+        scope: bits,
+        grant: number,
+        expiry: time + lifetime_of(client_at(table, who)),
+        client: request.client,
+        challenge: request.challenge,
+        fresh: request.fresh,
+        redirect: request.redirect,
+    };
+    push_at(ledger, k, time, push)
 }

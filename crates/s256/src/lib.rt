@@ -8,7 +8,7 @@ ghost use Rattle.s256.specs.Rule.{matching};
 
 pub mod base64url;
 
-// What the check answers: an enum and no bool, as document 01 wants of each check.
+// An enum: document 01 has each check's answer taken apart by let else, and the case says what was found.
 #[derive(Clone, Copy)]
 pub enum Match {
     Same,

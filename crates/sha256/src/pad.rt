@@ -39,6 +39,7 @@ pub fn block(m: &[u8], k: usize) -> [u8; 64]
     if k + 1 < blocks(m) {
         return b;
     }
+    // By `as`: std has no From between usize and u64.
     put(&mut b, 56, &((m.len() as u64) << 3).bytes());
     b
 }

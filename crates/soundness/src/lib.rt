@@ -15,7 +15,7 @@ use ledger::field::Head;
 use ledger::limit::{Clock, Ledger};
 use ledger::record::{Record, records};
 use ledger::sound::{Size, Soundness};
-use octets::part::{cut, is_zero};
+use octets::part::is_zero;
 use pool::{grants_apart, own_apart, values_apart};
 use record::is_record_sound;
 
@@ -45,9 +45,7 @@ pub fn check_size(l: &[u8]) -> Size
 fn is_head_sound(l: &[u8]) -> bool
     ensures { result ≡ head_sound l.now }
 {
-    clock(l) < Clock::LIMIT
-        && 1 <= next_number(l)
-        && is_zero(cut(l, Head::ZERO, Ledger::HEAD - Head::ZERO))
+    clock(l) < Clock::LIMIT && 1 <= next_number(l) && is_zero(Head::ZERO.of(l))
 }
 
 fn are_records_sound(records: &[Record], next: u64) -> bool

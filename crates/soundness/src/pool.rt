@@ -114,7 +114,8 @@ pub fn values_apart(records: &[Record]) -> bool
 {
     let mut clash = false;
     'search: for (i, r) in records.iter().enumerate() {
-        if is_zero(&r[Field::VALUE..Field::KEY]) {
+        // Value and token in one look.
+        if is_zero(&r[Field::VALUE.place..Field::KEY.place]) {
             continue;
         }
         let held = Held::of(r);

@@ -16,11 +16,11 @@ use octets::part::{cut, from, is_zero};
 fn is_redirect_sound(r: &Record) -> bool
     ensures { result ≡ redirect_sound r.now }
 {
-    let n = redirect_length(r) as usize;
+    let n = usize::from(redirect_length(r));
     if !(Redirect::LEAST..=Redirect::MOST).contains(&n) {
         return false;
     }
-    let Form::Well = Redirect::check(cut(r, Field::REDIRECT, n)) else {
+    let Form::Well = Redirect::check(cut(r, Field::REDIRECT.place, n)) else {
         return false;
     };
     is_zero(from(redirect_field(r), n))
@@ -30,8 +30,8 @@ fn is_redirect_sound(r: &Record) -> bool
 fn is_numbers_sound(r: &Record, next: u64) -> bool
     ensures { result ≡ numbers_sound next r.now }
 {
-    is_zero(&r[Field::GAP_ONE..Field::SCOPE])
-        && is_zero(&r[Field::GAP_TWO..Field::VALUE])
+    is_zero(Field::GAP_ONE.of(r))
+        && is_zero(Field::GAP_TWO.of(r))
         && (1..next).contains(&grant(r))
         && scope(r) != 0
         && expiry(r) < Expiry::LIMIT
@@ -58,6 +58,7 @@ fn is_used_sound(r: &Record, next: u64) -> bool
     is_numbers_sound(r, next) && is_bytes_sound(r)
 }
 
+// Two, of one line each: document 01 has a sentence for either, and so has specs/.
 #[tactic(auto, unfolding(ledger::specs::Sound::no_token))]
 fn has_no_token(r: &Record) -> bool
     ensures { result ≡ no_token r.now }

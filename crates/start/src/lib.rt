@@ -11,6 +11,7 @@ use ledger::clock::set_next;
 use ledger::sound::Size;
 use octets::part::clear;
 
+// Its answer is the number alone, as demands 1 and 2 and the C interface have it.
 pub fn start(ledger: &mut [u8]) -> u8
     ensures { left result ledger.new ≡ start ledger.old }
 {

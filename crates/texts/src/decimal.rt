@@ -25,7 +25,7 @@ fn glyph(d: u64) -> u8
     b'0' + d as u8
 }
 
-// The digits at the end of a text, the last first; answers where they begin.
+// The digits at the end of a text, the last first; answers where they begin. By hand: an output may end within the number, where write! stops with an error.
 fn spell(text: &mut [u8; Decimal::MOST], n: u64) -> usize
     ensures { (result + length (decimal n) ≡ decimal_most) × (drop result text.new ≡ decimal n) }
 {

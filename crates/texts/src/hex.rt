@@ -40,7 +40,8 @@ fn read(out: &mut [u8], text: &[u8])
     lay(out, 0, text.len() / 2, |i| pair_at(text, i));
 }
 
-// Whether a text is hexadecimal; where it is, its bytes are laid over the front of the output, and where not, nothing is written.
+// Whether a text is hexadecimal; where it is, its bytes are laid over the front of the output, and where not, nothing is written: the answer is a
+// bool, since there is nothing to hand out.
 #[tactic(auto, unfolding(crate::specs::Hex::decoded_over))]
 pub fn decode(out: &mut [u8], text: &[u8]) -> bool
     ensures { (result ≡ is_hex text.now) × (out.new ≡ decoded_over text.now out.old) }

@@ -30,8 +30,7 @@ use s256::Match;
 fn check_verifier(r: &[u8], verifier: &[u8]) -> Match
     ensures { result ≡ matching verifier.now (challenge r.now) }
 {
-    let matched = s256::matches(verifier, ledger::record::challenge(r));
-    matched
+    s256::matches(verifier, ledger::record::challenge(r))
 }
 
 // Writes the token into its record, and answers what the record then has.
@@ -42,7 +41,8 @@ fn token_record(r: &mut [u8], expiry: u64, fresh: &[u8; 32], key: &[u8; 32]) -> 
     Answer::of(r)
 }
 
-// What a code shown twice leaves: record k, which is lent on, is freed, and the clock is set.
+// What a code shown twice leaves: record k, which is lent on, is freed, and the clock is set. That k is a place of the ledger lent is no fact
+// that a type of places could hold.
 fn end_at(ledger: &mut [u8], k: usize, time: u64)
     requires { k < slots ledger.old }
     ensures { ledger.new ≡ ended ledger.old time k }

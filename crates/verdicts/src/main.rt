@@ -11,6 +11,7 @@ use judge::SPACE;
 use std::io;
 use std::io::Read;
 
+// Like the main of plays but for the length that that one keeps: one for both would be longer than the two.
 fn main(rt: HostRuntime) -> io::Result<()> {
     // Empty lines fill the buffer up behind a shorter script: they do nothing.
     let mut script = [0u8; 65536];

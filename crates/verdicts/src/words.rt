@@ -9,6 +9,6 @@ pub fn words(line: &[u8]) -> [&[u8]; 7] {
 pub fn number(word: &[u8]) -> usize {
     word.iter().fold(
         0,
-        |v: usize, digit| v.wrapping_mul(10).wrapping_add((*digit % 16) as usize),
+        |v: usize, digit| v.wrapping_mul(10).wrapping_add(usize::from(*digit % 16)),
     )
 }

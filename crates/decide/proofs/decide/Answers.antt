@@ -1,7 +1,7 @@
 use Rattle.std.proofs.Common.{List, ap, eqb, length, ltb, ◌&&◌, not, refl, sym, true, ℕ, ◌∙◌, ◌≡◌, Some}
 use Rattle.desk.proofs.Tests.{told}
 use Rattle.desk.proofs.Turns.{nth, Come, passes, stops, all_pass}
-use Rattle.desk.proofs.Written.{found_inside, timely_lt, decide_yes, decide_no, refuses}
+use Rattle.desk.proofs.Written.{found_inside, timely_lt, decide_yes, decide_no, refuses, record_is}
 use Rattle.desk.specs.Answers.{undecided}
 use Rattle.desk.specs.Checks.{Check, Verdict}
 use Rattle.desk.specs.Decide.{reference_place, decide_checks, decide_at, decide_leaves, decide}
@@ -19,11 +19,6 @@ use Rattle.ledger.specs.declared.clock.Timing.TheVariants.{Timely}
 use Rattle.ledger.specs.declared.record.Life.TheVariants.{Alive}
 use Rattle.ledger.specs.declared.sound.Soundness.TheVariants.{Sound}
 use Rattle.decide.proofs.decide.Goals as goal
-
--- a record that is read where the request is found stands at the request's place
-record_is : (l : List ℕ) (request : DecideRequest) {k : ℕ} {r : List ℕ} → found (is_reference request.reference request.client) l ≡ Some k → r ≡ rec l k
-    → r ≡ rec l (reference_place l request)
-record_is l request f p = p ∙ ap (rec l) (sym (found_place _ _ _ f))
 
 module _ (l : List ℕ) (time : ℕ) (request : DecideRequest) (out : List ℕ) where
   abbrev checks : List Check
@@ -67,7 +62,7 @@ module _ (l : List ℕ) (time : ℕ) (request : DecideRequest) (out : List ℕ) 
           module _ {r : List ℕ} (read : r ≡ rec l k) (alive : check_life r time ≡ Alive) where
             come5 : Come 5 checks
             unfolding decide_checks
-            come5 = passes 4 checks come4 (life_told _ _ _ (rw (record_is l request here read) at alive))
+            come5 = passes 4 checks come4 (life_told _ _ _ (rw (record_is _ l here read) at alive))
 
             module _ (given : fails_when (eqb request.holder 0) ≡ Passed) where
               come6 : Come 6 checks
@@ -110,7 +105,7 @@ returns-in_default-check_life c =
     let l = c.args.ledger.now in
     let request : DecideRequest = record { reference = c.args.request.reference.now; client = c.args.request.client.now; yes = c.args.request.yes; holder = c.args.request.holder; fresh = c.args.request.fresh.now } in
     refusal l c.args.time request c.args.out.now 4 (come4 _ _ _ _ (sym c.in-Sound.ensures) (sym c.in-Timely.ensures) (sym c.in-Passed.ensures) (sym c.in-Some.ensures))
-    (life_told _ _ _ (rw (record_is l request (sym c.in-Some.ensures) c.at.ensures) at (sym c.in_default-check_life.ensures))) c.refused-in_default-check_life.ensures
+    (life_told _ _ _ (rw (record_is _ l (sym c.in-Some.ensures) c.at.ensures) at (sym c.in_default-check_life.ensures))) c.refused-in_default-check_life.ensures
 
 pub returns-in_default-given : goal.returns-in_default-given
 unfolding decide_checks

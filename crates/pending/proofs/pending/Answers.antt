@@ -1,14 +1,14 @@
 use Rattle.std.proofs.Common.{List, ap, length, ltb, not, refl, sym, true, ℕ, ◌∙◌, ◌≡◌, Some}
 use Rattle.desk.proofs.Tests.{told}
 use Rattle.desk.proofs.Turns.{nth, Come, passes, stops, all_pass}
-use Rattle.desk.proofs.Written.{pending_shown, refuses}
+use Rattle.desk.proofs.Written.{pending_shown, refuses, record_is}
 use Rattle.desk.specs.Answers.{undecided}
 use Rattle.desk.specs.Checks.{Check, Verdict}
 use Rattle.desk.specs.Outcome.{Outcome, left_with, concludes}
 use Rattle.desk.specs.Pending.{pending_place, pending_checks, pending_at, pending_leaves, pending}
 use Rattle.desk.specs.Requests.{PendingRequest}
 use Rattle.desk.specs.declared.answer.Decided.{Decided}
-use Rattle.ledger.proofs.Tests.{sound_told, time_told, life_told, found_told, found_place}
+use Rattle.ledger.proofs.Tests.{sound_told, time_told, life_told, found_told}
 use Rattle.ledger.specs.Fields.{rec}
 use Rattle.desk.specs.Limits.{output_least}
 use Rattle.desk.specs.Tests.{fails_when}
@@ -18,11 +18,6 @@ use Rattle.ledger.specs.declared.clock.Timing.TheVariants.{Timely}
 use Rattle.ledger.specs.declared.record.Life.TheVariants.{Alive}
 use Rattle.ledger.specs.declared.sound.Soundness.TheVariants.{Sound}
 use Rattle.pending.proofs.pending.Goals as goal
-
--- a record that is read where the request is found stands at the request's place
-record_is : (l : List ℕ) (request : PendingRequest) {k : ℕ} {r : List ℕ} → found (is_reference request.reference request.client) l ≡ Some k → r ≡ rec l k
-    → r ≡ rec l (pending_place l request)
-record_is l request f p = p ∙ ap (rec l) (sym (found_place _ _ _ f))
 
 module _ (l : List ℕ) (time : ℕ) (request : PendingRequest) (out : List ℕ) where
   abbrev checks : List Check
@@ -65,7 +60,7 @@ module _ (l : List ℕ) (time : ℕ) (request : PendingRequest) (out : List ℕ)
 
           come5 : {r : List ℕ} → r ≡ rec l k → check_life r time ≡ Alive → Come 5 checks
           unfolding pending_checks
-          come5 e alive = passes 4 checks come4 (life_told _ _ _ (rw (record_is l request here e) at alive))
+          come5 e alive = passes 4 checks come4 (life_told _ _ _ (rw (record_is _ l here e) at alive))
 
 -- ---- the returns
 
@@ -99,13 +94,13 @@ returns-in_default-check_life c =
     let l = c.args.ledger.now in
     let request : PendingRequest = record { reference = c.args.reference.now; client = c.args.client.now } in
     refusal l c.args.time request c.args.output.now 4 (come4 _ _ _ _ (sym c.in-Sound.ensures) (sym c.in-Timely.ensures) (sym c.in-Passed.ensures) (sym c.in-Some.ensures))
-    (life_told _ _ _ (rw (record_is l request (sym c.in-Some.ensures) c.at-r.ensures) at (sym c.in_default-check_life.ensures))) c.refused-in_default-check_life.ensures
+    (life_told _ _ _ (rw (record_is _ l (sym c.in-Some.ensures) c.at-r.ensures) at (sym c.in_default-check_life.ensures))) c.refused-in_default-check_life.ensures
 
 pub returns : goal.returns
 returns c =
     let l = c.args.ledger.now in
     let request : PendingRequest = record { reference = c.args.reference.now; client = c.args.client.now } in
     let t = come5 l c.args.time request c.args.output.now (sym c.in-Sound.ensures) (sym c.in-Timely.ensures) (sym c.in-Passed.ensures) (sym c.in-Some.ensures) c.at-r.ensures (sym c.in-Alive.ensures) in
-    pending_shown l c.args.output.now (pending_place l request) _ _ _ _ _ (record_is l request (sym c.in-Some.ensures) c.at-r.ensures) c.hand_out.ensures c.of.ensures
+    pending_shown l c.args.output.now (pending_place l request) _ _ _ _ _ (record_is _ l (sym c.in-Some.ensures) c.at-r.ensures) c.hand_out.ensures c.of.ensures
     c.redirect_length.ensures c.with.ensures
     ∙ sym (acceptance _ _ _ _ t)

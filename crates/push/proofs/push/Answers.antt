@@ -178,8 +178,8 @@ returns-in_default-number c =
     refusal _ _ _ _ 8 (come8 _ _ _ _ (sym c.in-Sound.ensures) (sym c.in-Timely.ensures) (sym c.in-Sound-check.ensures) (sym c.in-Some.ensures) (sym c.in-Passed.ensures) c.permitted.ensures (sym c.in-Some-granted.ensures) (sym c.in-New.ensures) (sym c.in-Some-free.ensures))
     (told _ _ (numbered c.args.ledger.now c.next_number-number.ensures (sym c.in_default-number.ensures))) c.refused-in_default-number.ensures
 
-pub overflow_add-time : goal.overflow_add-time
-overflow_add-time c =
+pub overflow_add-push : goal.overflow_add-push
+overflow_add-push c =
     let h = timely_lt _ _ (time_told _ _ _ (sym c.in-Timely.ensures)) in
     let m = known_most _ _ _ _ (table_told _ _ (sym c.in-Sound-check.ensures)) (sym c.in-Some.ensures) in
     let e = c.lifetime_of.ensures ∙ ap lifetime_of c.client_at.ensures in

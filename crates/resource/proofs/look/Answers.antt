@@ -1,4 +1,5 @@
 use Rattle.std.proofs.Common.{List, ap, eqb, not, refl, sym, true, ℕ, ◌∙◌, ◌≡◌, Some, Ok, Err}
+use Rattle.desk.proofs.Written.{record_is}
 use Rattle.desk.proofs.Tests.{told}
 use Rattle.desk.proofs.Turns.{nth, Come, passes, stops, all_pass}
 use Rattle.desk.specs.Answers.{answer_of}
@@ -7,7 +8,7 @@ use Rattle.desk.specs.Requests.{ResourceRequest}
 use Rattle.desk.specs.Resource.{token_place, resource_checks, read_by, look}
 use Rattle.desk.specs.Tests.{fails_when}
 use Rattle.desk.specs.declared.check.Test.{Test}
-use Rattle.ledger.proofs.Tests.{sound_told, time_told, life_told, found_told, found_place}
+use Rattle.ledger.proofs.Tests.{sound_told, time_told, life_told, found_told}
 use Rattle.ledger.specs.Checks.{check_sound, check_time, check_life, found, is_token}
 use Rattle.ledger.specs.Fields.{rec, scope, holder}
 use Rattle.desk.specs.declared.check.Test.TheVariants.{Passed}
@@ -15,11 +16,6 @@ use Rattle.ledger.specs.declared.clock.Timing.TheVariants.{Timely}
 use Rattle.ledger.specs.declared.record.Life.TheVariants.{Alive}
 use Rattle.ledger.specs.declared.sound.Soundness.TheVariants.{Sound}
 use Rattle.resource.proofs.look.Goals as goal
-
--- a record that is read where the token is found stands at the token's place
-record_is : (l : List ℕ) (request : ResourceRequest) {k : ℕ} {r : List ℕ} → found (is_token request.token) l ≡ Some k → r ≡ rec l k
-    → r ≡ rec l (token_place l request)
-record_is l request f p = p ∙ ap (rec l) (sym (found_place _ _ _ f))
 
 -- the granted bits are the record's
 bits : (asked : ℕ) {r s : List ℕ} {n : ℕ} {a : Test} → r ≡ s → n ≡ scope r → fails_when (not (scope_fits asked n)) ≡ a
@@ -62,7 +58,7 @@ module _ (l : List ℕ) (time : ℕ) (request : ResourceRequest) where
         module _ {r : List ℕ} (read : r ≡ rec l k) (alive : check_life r time ≡ Alive) where
           come4 : Come 4 checks
           unfolding resource_checks
-          come4 = passes 3 checks come3 (life_told _ _ _ (rw (record_is l request here read) at alive))
+          come4 = passes 3 checks come3 (life_told _ _ _ (rw (record_is _ l here read) at alive))
 
           module _ (bound : fails_when (nth 4 checks).holds ≡ Passed) where
             come5 : Come 5 checks
@@ -72,11 +68,11 @@ module _ (l : List ℕ) (time : ℕ) (request : ResourceRequest) where
             module _ {n : ℕ} (granted : n ≡ scope r) (within : fails_when (not (scope_fits request.scope n)) ≡ Passed) where
               come6 : Come 6 checks
               unfolding resource_checks
-              come6 = passes 5 checks come5 (told _ _ (bits request.scope (record_is l request here read) granted within))
+              come6 = passes 5 checks come5 (told _ _ (bits request.scope (record_is _ l here read) granted within))
 
               come7 : fails_when (not (eqb (holder r) request.holder)) ≡ Passed → Come 7 checks
               unfolding resource_checks
-              come7 held = passes 6 checks come6 (told _ _ (rw (record_is l request here read) at held))
+              come7 held = passes 6 checks come6 (told _ _ (rw (record_is _ l here read) at held))
 
 -- ---- the returns
 
@@ -103,7 +99,7 @@ unfolding resource_checks
 returns-in_default-check_life c =
     let l = c.args.ledger.now in
     let request : ResourceRequest = record { token = c.args.request.token.now; presented = c.args.request.presented.now; scope = c.args.request.scope; holder = c.args.request.holder } in
-    let read = record_is l request (sym c.in-Some.ensures) c.at-r.ensures in
+    let read = record_is _ l (sym c.in-Some.ensures) c.at-r.ensures in
     refusal l c.args.time request 3 (come3 _ _ _ (sym c.in-Sound.ensures) (sym c.in-Timely.ensures) (sym c.in-Some.ensures))
     (life_told _ _ _ (rw read at (sym c.in_default-check_life.ensures)))
 
@@ -112,7 +108,7 @@ unfolding resource_checks
 returns-in_default-bound c =
     let l = c.args.ledger.now in
     let request : ResourceRequest = record { token = c.args.request.token.now; presented = c.args.request.presented.now; scope = c.args.request.scope; holder = c.args.request.holder } in
-    let read = record_is l request (sym c.in-Some.ensures) c.at-r.ensures in
+    let read = record_is _ l (sym c.in-Some.ensures) c.at-r.ensures in
     refusal l c.args.time request 4 (come4 _ _ _ (sym c.in-Sound.ensures) (sym c.in-Timely.ensures) (sym c.in-Some.ensures) c.at-r.ensures (sym c.in-Alive.ensures))
     (told _ _ (rw read at (sym c.in_default-bound.ensures)))
 
@@ -121,7 +117,7 @@ unfolding resource_checks
 returns-in_default-within c =
     let l = c.args.ledger.now in
     let request : ResourceRequest = record { token = c.args.request.token.now; presented = c.args.request.presented.now; scope = c.args.request.scope; holder = c.args.request.holder } in
-    let read = record_is l request (sym c.in-Some.ensures) c.at-r.ensures in
+    let read = record_is _ l (sym c.in-Some.ensures) c.at-r.ensures in
     refusal l c.args.time request 5 (come5 _ _ _ (sym c.in-Sound.ensures) (sym c.in-Timely.ensures) (sym c.in-Some.ensures) c.at-r.ensures (sym c.in-Alive.ensures) (rw read at (sym c.in-Passed.ensures)))
     (told _ _ (bits c.args.request.scope read c.scope.ensures (sym c.in_default-within.ensures)))
 
@@ -130,7 +126,7 @@ unfolding resource_checks
 returns-in_default-held c =
     let l = c.args.ledger.now in
     let request : ResourceRequest = record { token = c.args.request.token.now; presented = c.args.request.presented.now; scope = c.args.request.scope; holder = c.args.request.holder } in
-    let read = record_is l request (sym c.in-Some.ensures) c.at-r.ensures in
+    let read = record_is _ l (sym c.in-Some.ensures) c.at-r.ensures in
     refusal l c.args.time request 6 (come6 _ _ _ (sym c.in-Sound.ensures) (sym c.in-Timely.ensures) (sym c.in-Some.ensures) c.at-r.ensures (sym c.in-Alive.ensures) (rw read at (sym c.in-Passed.ensures)) c.scope.ensures (sym c.in-Passed-within.ensures))
     (told _ _ (rw read at (sym c.in_default-held.ensures)))
 
@@ -139,6 +135,6 @@ unfolding resource_checks
 returns c =
     let l = c.args.ledger.now in
     let request : ResourceRequest = record { token = c.args.request.token.now; presented = c.args.request.presented.now; scope = c.args.request.scope; holder = c.args.request.holder } in
-    let read = record_is l request (sym c.in-Some.ensures) c.at-r.ensures in
+    let read = record_is _ l (sym c.in-Some.ensures) c.at-r.ensures in
     let t = come7 l c.args.time request (sym c.in-Sound.ensures) (sym c.in-Timely.ensures) (sym c.in-Some.ensures) c.at-r.ensures (sym c.in-Alive.ensures) (rw read at (sym c.in-Passed.ensures)) c.scope.ensures (sym c.in-Passed-within.ensures) (sym c.in-Passed-held.ensures) in
     ap Ok (c.of.ensures ∙ ap answer_of read) ∙ sym (acceptance _ _ _ t)

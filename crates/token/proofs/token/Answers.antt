@@ -1,7 +1,7 @@
 use Rattle.std.proofs.Common.{List, ap, not, refl, sym, true, ℕ, ◌∙◌, ◌≡◌, Some}
 use Rattle.desk.proofs.Tests.{told, table_told, known_told}
 use Rattle.desk.proofs.Turns.{nth, Come, passes, stops, all_pass}
-use Rattle.desk.proofs.Written.{token_at_lem as written_at, found_inside, timely_lt, refuses}
+use Rattle.desk.proofs.Written.{token_at_lem as written_at, found_inside, timely_lt, refuses, record_is}
 use Rattle.desk.specs.Answers.{refused}
 use Rattle.desk.specs.Checks.{Check, Verdict}
 use Rattle.desk.specs.Outcome.{Outcome, left, concludes}
@@ -31,11 +31,6 @@ use Rattle.ledger.specs.declared.state.State.TheVariants.{Redeemed}
 use Rattle.s256.specs.Rule.{matching}
 use Rattle.s256.specs.declared.Match.TheVariants.{Same}
 use Rattle.token.proofs.token.Goals as goal
-
--- a record that is read where the code is found stands at the code's place
-record_is : (l : List ℕ) (request : TokenRequest) {k : ℕ} {r : List ℕ} → found (is_code request.code request.client) l ≡ Some k → r ≡ rec l k
-    → r ≡ rec l (code_place l request)
-record_is l request f p = p ∙ ap (rec l) (sym (found_place _ _ _ f))
 
 module _ (l : List ℕ) (time : ℕ) (table : List ℕ) (request : TokenRequest) where
   abbrev checks : List Check
@@ -98,16 +93,16 @@ module _ (l : List ℕ) (time : ℕ) (table : List ℕ) (request : TokenRequest)
                 module _ {r : List ℕ} (read : r ≡ rec l k) (unredeemed : fails_when (in_state Redeemed r) ≡ Passed) where
                   come8 : Come 8 checks
                   unfolding token_checks
-                  come8 = passes 7 checks come7 (told _ _ (rw (record_is l request here read) at unredeemed))
+                  come8 = passes 7 checks come7 (told _ _ (rw (record_is _ l here read) at unredeemed))
 
                   module _ {s : List ℕ} (again : s ≡ rec l k) (alive : check_life s time ≡ Alive) where
                     come9 : Come 9 checks
                     unfolding token_checks
-                    come9 = passes 8 checks come8 (life_told _ _ _ (rw (record_is l request here again) at alive))
+                    come9 = passes 8 checks come8 (life_told _ _ _ (rw (record_is _ l here again) at alive))
 
                     come10 : {q : List ℕ} → q ≡ rec l k → matching request.verifier (challenge q) ≡ Same → Come 10 checks
                     unfolding token_checks
-                    come10 e m = passes 9 checks come9 (ap not (matching_same _ _ (rw (record_is l request here e) at m)))
+                    come10 e m = passes 9 checks come9 (ap not (matching_same _ _ (rw (record_is _ l here e) at m)))
 
 -- ---- the returns
 
@@ -163,7 +158,7 @@ returns-in_default-unredeemed c =
     let l = c.args.ledger.now in
     let request : TokenRequest = record { client = c.args.request.client.now; key = c.args.request.key.now; presented = c.args.request.presented.now; code = c.args.request.code.now; verifier = c.args.request.verifier.now; fresh = c.args.request.fresh.now } in
     refusal l c.args.time c.args.table.now request 7 (come7 _ _ _ _ (sym c.in-Sound.ensures) (sym c.in-Timely.ensures) (sym c.in-Sound-check.ensures) (sym c.in-Some.ensures) (sym c.in-Passed.ensures) (sym c.in-Well.ensures) (sym c.in-Some-code.ensures))
-    (told _ _ (rw (record_is l request (sym c.in-Some-code.ensures) c.at.ensures) at (sym c.in_default-unredeemed.ensures))) c.refused-in_default-unredeemed.ensures (c.end_at.ensures ∙ ap (ended l c.args.time) (sym (found_place _ _ _ (sym c.in-Some-code.ensures))))
+    (told _ _ (rw (record_is _ l (sym c.in-Some-code.ensures) c.at.ensures) at (sym c.in_default-unredeemed.ensures))) c.refused-in_default-unredeemed.ensures (c.end_at.ensures ∙ ap (ended l c.args.time) (sym (found_place _ _ _ (sym c.in-Some-code.ensures))))
 
 pub returns-in_default-check_life : goal.returns-in_default-check_life
 unfolding token_checks
@@ -171,7 +166,7 @@ returns-in_default-check_life c =
     let l = c.args.ledger.now in
     let request : TokenRequest = record { client = c.args.request.client.now; key = c.args.request.key.now; presented = c.args.request.presented.now; code = c.args.request.code.now; verifier = c.args.request.verifier.now; fresh = c.args.request.fresh.now } in
     refusal l c.args.time c.args.table.now request 8 (come8 _ _ _ _ (sym c.in-Sound.ensures) (sym c.in-Timely.ensures) (sym c.in-Sound-check.ensures) (sym c.in-Some.ensures) (sym c.in-Passed.ensures) (sym c.in-Well.ensures) (sym c.in-Some-code.ensures) c.at.ensures (sym c.in-Passed-unredeemed.ensures))
-    (life_told _ _ _ (rw (record_is l request (sym c.in-Some-code.ensures) c.at-2.ensures) at (sym c.in_default-check_life.ensures))) c.refused-in_default-check_life.ensures refl
+    (life_told _ _ _ (rw (record_is _ l (sym c.in-Some-code.ensures) c.at-2.ensures) at (sym c.in_default-check_life.ensures))) c.refused-in_default-check_life.ensures refl
 
 pub returns-in_default-check_verifier : goal.returns-in_default-check_verifier
 unfolding token_checks
@@ -179,7 +174,7 @@ returns-in_default-check_verifier c =
     let l = c.args.ledger.now in
     let request : TokenRequest = record { client = c.args.request.client.now; key = c.args.request.key.now; presented = c.args.request.presented.now; code = c.args.request.code.now; verifier = c.args.request.verifier.now; fresh = c.args.request.fresh.now } in
     refusal l c.args.time c.args.table.now request 9 (come9 _ _ _ _ (sym c.in-Sound.ensures) (sym c.in-Timely.ensures) (sym c.in-Sound-check.ensures) (sym c.in-Some.ensures) (sym c.in-Passed.ensures) (sym c.in-Well.ensures) (sym c.in-Some-code.ensures) c.at.ensures (sym c.in-Passed-unredeemed.ensures) c.at-2.ensures (sym c.in-Alive.ensures))
-    (ap not (matching_differs _ _ (rw (record_is l request (sym c.in-Some-code.ensures) c.at-3.ensures) at (sym c.in_default-check_verifier.ensures)))) c.refused-in_default-check_verifier.ensures refl
+    (ap not (matching_differs _ _ (rw (record_is _ l (sym c.in-Some-code.ensures) c.at-3.ensures) at (sym c.in_default-check_verifier.ensures)))) c.refused-in_default-check_verifier.ensures refl
 
 pub returns-in_default-check-4 : goal.returns-in_default-check-4
 unfolding token_checks

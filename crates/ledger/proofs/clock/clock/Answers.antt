@@ -1,4 +1,0 @@
-use Rattle.ledger.proofs.clock.clock.Goals as goal
-
-pub returns : goal.returns
-returns c = cc

@@ -1,6 +1,0 @@
-use Rattle.std.proofs.Common.{arith, sym}
-use lib.ListN.{get_or-eq_default}
-use Rattle.ledger.proofs.state.byte.Goals as goal
-
-pub returns-then-r-le-STATE : goal.returns-then-r-le-STATE
-returns-then-r-le-STATE c = sym (get_or-eq_default c.args.r.now 0 (omega arith))
