@@ -18,6 +18,7 @@ impl Reference {
     // The most that a record may say.
     pub const MOST: u64 = 599;
 
+    // A function to each constant: public, with a promise of its own (docs/OUTCOMES.md), which ties it to its definition.
     pub fn lifetime() -> u64
         ensures { result ≡ reference_lifetime }
     {
@@ -32,6 +33,7 @@ impl Reference {
 }
 
 #[tactic(auto, using(octets::proofs::Spans::field_read))]
+// By the name of its field, as the ledger's fields are read.
 fn said(c: &[u8]) -> u64
     ensures { result ≡ lifetime_said c.now }
 {

@@ -13,6 +13,7 @@ pub struct Client {}
 impl Client {
     pub const SIZE: usize = 64;
 
+    // A function to each constant: public, with a promise of its own (docs/OUTCOMES.md), which ties it to its definition.
     pub fn size() -> usize
         ensures { result ≡ client_size }
     {
@@ -51,7 +52,7 @@ impl Field {
     };
 }
 
-// How many whole records the table has.
+// How many whole records the table has. Beside the ledger's slots, records and at: over another size and no head, and each has a definition of its own.
 pub fn clients(table: &[u8]) -> usize
     ensures { result ≡ clients table.now }
 {
@@ -78,7 +79,7 @@ pub fn client_at(table: &[u8], k: usize) -> &[u8]
     cut(table, Client::SIZE * k, Client::SIZE)
 }
 
-// The permitted scope bits of record k.
+// The permitted scope bits of record k, by the name of their field, as the ledger's fields are read.
 #[tactic(auto, using(octets::proofs::Spans::field_read))]
 pub fn permitted(table: &[u8], k: usize) -> u32
     ensures { result ≡ permitted (client table.now k) }

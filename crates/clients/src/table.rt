@@ -20,6 +20,7 @@ impl Table {
 
     pub const MOST: usize = 64;
 
+    // A function to each constant: public, with a promise of its own (docs/OUTCOMES.md), which ties it to its definition.
     pub fn least() -> usize
         ensures { result ≡ clients_least }
     {

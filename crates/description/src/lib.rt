@@ -25,7 +25,7 @@ pub struct Description<'a> {
 }
 
 impl<'a> Description<'a> {
-    // The longest text of a sound record; most and widest say the same numbers as the definitions.
+    // The longest text of a sound record; most and widest, public with a promise each, say the same numbers as the definitions.
     pub const MOST: usize = 304;
 
     // The longest of any values of the fields' widths.

@@ -9,6 +9,7 @@ impl Scope {
     // How many bits a scope has.
     pub const WIDTH: u32 = 32;
 
+    // As the functions beside public constants: it ties this one to its definition.
     pub fn width() -> u32
         ensures { result ≡ scope_width }
     {

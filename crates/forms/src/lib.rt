@@ -32,7 +32,7 @@ impl Redirect {
 
     pub const MOST: usize = 64;
 
-    // least, most and length, of each kind: the limits that the definitions have are the code's.
+    // least, most and length, of each kind, public with a promise each: the limits that the definitions have are the code's.
     pub fn least() -> usize
         ensures { result ≡ redirect_least }
     {

@@ -1,4 +1,5 @@
-// The sizes of the line program, each a constant of what it belongs to; a function beside it ties it to its definition.
+// The sizes of the line program, each a constant of what it belongs to; a function beside it, public with a promise
+// of its own, ties it to its definition.
 ghost use Rattle.std.specs.Prelude.{◌≡◌};
 ghost use Rattle.frames.specs.Limits.{line_most, line_kept, ledger_most, table_most, answer_line};
 

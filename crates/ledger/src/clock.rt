@@ -1,4 +1,4 @@
-// The head: the clock and the next grant number.
+// The head: the clock and the next grant number, each read and set by its own name, as a record's fields are.
 ghost use Rattle.std.specs.Prelude.{◌≡◌};
 ghost use Rattle.ledger.specs.Fields.{clock, with_clock, next_number, with_next};
 ghost use Rattle.ledger.specs.Checks.{check_time};

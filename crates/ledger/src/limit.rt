@@ -1,4 +1,5 @@
-// Lifetimes and limits, each a constant of the kind it belongs to; a function beside it ties it to its definition.
+// Lifetimes and limits, each a constant of the kind it belongs to; a function beside it, public with a promise of its own, ties it to its
+// definition.
 ghost use Rattle.std.specs.Prelude.{◌≡◌};
 ghost use Rattle.ledger.specs.Limits.{code_lifetime, token_lifetime, clock_limit, expiry_limit, head_size, record_size, records_least, records_most, last_number};
 

@@ -33,7 +33,7 @@ fn sweep_at(l: &mut [u8], k: usize, time: u64)
     }
 }
 
-// Whether the record is of this kind and expired.
+// Whether the record is of this kind and expired: with is_due above a definition each.
 #[tactic(auto, unfolding(crate::specs::Sweep::due))]
 fn due(r: &[u8], s: State, time: u64) -> bool
     ensures { result ≡ due s time r.now }

@@ -11,6 +11,7 @@ pub struct Decimal {}
 impl Decimal {
     pub const MOST: usize = 20;
 
+    // A function to each constant: public, with a promise of its own (docs/OUTCOMES.md), which ties it to its definition.
     pub fn most() -> usize
         ensures { result ≡ decimal_most }
     {

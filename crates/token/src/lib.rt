@@ -52,7 +52,7 @@ fn end_at(ledger: &mut [u8], k: usize, time: u64)
     set_clock(ledger, time);
 }
 
-// What is written once the record is found and all checks have passed: record k, which is lent on, and the clock.
+// What is written once the record is found and all checks have passed: record k, which is lent on, and the clock. The place k is as above.
 fn token_at(ledger: &mut [u8], k: usize, time: u64, fresh: &[u8; 32], key: &[u8; 32]) -> Answer
     requires { (k < slots ledger.old) × (time < clock_limit) }
     ensures { left result ledger.new ≡ rewritten ledger.old time k (redeemed (time + token_lifetime) fresh.now key.now (rec ledger.old k)) }

@@ -9,16 +9,6 @@ use std::io;
 // How many bytes there are to write on: as many as a ledger of 201 records has.
 pub const SPACE: usize = 51488;
 
-// Check 1.
-fn is_ledger(l: &[u8]) -> bool {
-    matches!(soundness::check(l), Soundness::Sound)
-}
-
-// Check 3.
-fn is_table(t: &[u8]) -> bool {
-    matches!(clients::table::check(t), Table::Sound)
-}
-
 fn say(rt: &impl Print, name: &[u8], sound: bool) -> io::Result<()> {
     rt.write_all(name)?;
     if sound {
@@ -50,8 +40,12 @@ pub fn turn(rt: &impl Print, line: &[u8], space: &mut [u8; SPACE]) -> io::Result
     match asked {
         [b"clear", ..] => space.fill(0),
         [b"put", place, bytes, ..] => lay(space, number(place), bytes),
-        [b"ledger", ..] => judge(rt, asked, space, is_ledger)?,
-        [b"table", ..] => judge(rt, asked, space, is_table)?,
+        [b"ledger", ..] => judge(rt, asked, space, |l| {
+            matches!(soundness::check(l), Soundness::Sound)
+        })?,
+        [b"table", ..] => judge(rt, asked, space, |t| {
+            matches!(clients::table::check(t), Table::Sound)
+        })?,
         _ => {}
     }
     Ok(())

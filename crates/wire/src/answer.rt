@@ -24,6 +24,7 @@ impl Said {
 
     const EXPIRY: usize = 21;
 
+    // A function to each constant: public, with a promise of its own (docs/OUTCOMES.md), which ties it to its definition.
     pub fn size() -> usize
         ensures { result ≡ answer_size }
     {

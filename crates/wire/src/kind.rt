@@ -131,6 +131,7 @@ impl Resource {
     // A request of a page is the frame without its kind.
     pub const REQUEST: usize = 84;
 
+    // A function to each constant: public, with a promise of its own (docs/OUTCOMES.md), which ties it to its definition.
     pub fn request() -> usize
         ensures { result ≡ request_size }
     {
