@@ -12,6 +12,7 @@ from pathlib import Path
 
 TOP = Path(__file__).resolve().parents[2]
 ARCHIVE = "target/staticlib/libfront.a"
+NEEDED = f"test \"$(nm -u {ARCHIVE} | awk 'NF == 2 {{print $2}}' | sort -u | xargs)\" = 'memcpy memset'"  # what docs/FRONT.md says of it
 STRICT = "-std=c11 -O1 -Wall -Wextra -Wpedantic -Wconversion -Werror -Iinclude -Itests/front".split()
 STREAMS = "--streams 45 --lines 300 --seed front --cover".split()
 LINES_IN_C, LINES_IN_RUST = "target/front/c/lines", "target/front/release/lines"
@@ -29,6 +30,7 @@ def cargo(*words, package, folder):
 
 def steps():
     """Each step: what it is, its command, and whether it ends with tallies of its own."""
+    yield "the archive needs memcpy and memset alone", ["bash", "-c", NEEDED], False
     for name in ("calls", "lines"):
         yield f"{name}.c compiles", ["cc", *STRICT, f"tests/front/{name}.c", ARCHIVE, "-o", f"target/front/c/{name}"], False
     yield "front.c compiles", ["cc", *STRICT, "examples/front.c", ARCHIVE, "-o", "target/front/c/front"], False

@@ -35,12 +35,14 @@ pub fn same(a: &[u8], b: &[u8]) -> bool
     a == b
 }
 
-// Copies s over the front of d, as much of it as there is room for.
+// Copies s over the front of d, as much of it as there is room for. By place: `copy_from_slice` asks the C library for `memmove`, and the archive is to need
+// `memcpy` and `memset` alone.
 pub fn copy(d: &mut [u8], s: &[u8])
     ensures { d.new ≡ laid s.now d.old }
 {
-    let n = s.len().min(d.len());
-    d[..n].copy_from_slice(&s[..n]);
+    for i in 0..s.len().min(d.len()) {
+        d[i] = s[i];
+    }
 }
 
 // Copies xs over s from index a on, as much of it as there is room for.
