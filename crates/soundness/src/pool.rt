@@ -11,8 +11,6 @@ use ledger::record::{Record, grant, token, value};
 use ledger::state::{State, is_in};
 use octets::part::{is_zero, same};
 
-// Asked only where two leads agree, which is rare: out of the way of the search.
-#[cold]
 #[tactic(auto, unfolding(ledger::specs::Sound::meets))]
 fn meets(r: &Record, s: &Record) -> bool
     ensures { result ≡ meets r.now s.now }
