@@ -34,13 +34,17 @@ fn turn(rt: &impl Print, line: &[u8], space: &mut [u8], n: usize) -> io::Result<
 
 // Like the main of verdicts but for the length that it keeps: one for both would be longer than the two.
 fn main(rt: HostRuntime) -> io::Result<()> {
-    // Empty lines fill the buffer up behind a shorter script: they do nothing.
+    // Empty lines fill the buffer up behind a shorter script: they would do nothing, and are cut off.
     let mut script = [0u8; 65536];
     rt.stdin().chain(io::repeat(b'\n')).read_exact(&mut script)?;
+    let end = script
+        .iter()
+        .rposition(|b| *b != b'\n')
+        .map_or(0, |last| last + 1);
     // A length, since a part of space that is kept from line to line and lent anew in some would have two lifetimes, which is not proved yet.
     let mut space = [0u8; 51488];
     let mut n = 0;
-    for line in script.split(|b| *b == b'\n') {
+    for line in script[..end].split(|b| *b == b'\n') {
         n = turn(&rt, line, &mut space, n)?;
     }
     Ok(())

@@ -2,7 +2,8 @@
 
 // The first seven; one that the line does not have is empty.
 pub fn words(line: &[u8]) -> [&[u8]; 7] {
-    [0, 1, 2, 3, 4, 5, 6].map(|n| line.split(|b| *b == b' ').nth(n).unwrap_or(&[]))
+    let mut words = line.split(|b| *b == b' ');
+    [(); 7].map(|()| words.next().unwrap_or(&[]))
 }
 
 // A word in decimal. A byte that is no digit counts here for its low four bits and in plays for itself, on every script: so each has its own.
