@@ -50,7 +50,9 @@ fn first<F: Fn(&Record) -> bool>(l: &[u8], is_wanted: F) -> Option<usize>
     requires { F.IsAlwaysCallable is_wanted }
     ensures { (q : List ℕ → Bool) → Computes (FnReturnsAt F.Fn is_wanted) q → result ≡ found q l.now }
 {
-    records(l).iter().position(is_wanted)
+    // By a name of its own, so that a must-fail edit can answer another place.
+    let k = records(l).iter().position(is_wanted)?;
+    Some(k)
 }
 
 // For check 8.

@@ -3,7 +3,7 @@ ghost use Rattle.std.specs.Prelude.{◌≡◌, ℕ, ◌≤◌, ◌<◌, ◌^◌,
 ghost use Rattle.octets.specs.Numbers.{num, digits};
 ghost use Rattle.octets.specs.Parts.{laid};
 
-use super::part::copy;
+use super::part::put;
 use std::convert::AsSlice;
 
 // A number of a fixed width. Its bytes are the highest first.
@@ -24,10 +24,11 @@ pub trait Number: Copy {
         ensures { Self.Bytes.items result ≡ digits width (value self) };
 
     // Lays the bytes over the front of s, as many as there is room for.
+    #[tactic(auto, unfolding(crate::specs::Parts::put))]
     final fn write(self, s: &mut [u8])
         ensures { s.new ≡ laid (digits width (value self)) s.old }
     {
-        copy(s, self.bytes().as_slice());
+        put(s, 0, self.bytes().as_slice());
     }
 }
 
@@ -52,10 +53,11 @@ impl Number for u16 {
     ghost value = { λ n. n };
 
     fn read(s: &[u8]) -> u16 {
-        let Some(front) = s.first_chunk() else {
+        let Some(front) = s.first_chunk::<2>() else {
             return short(s) as u16;
         };
-        u16::from_be_bytes(*front)
+        // Each byte by its place, here and below, so that their order is a value that a must-fail edit can change.
+        u16::from_be_bytes([front[0], front[1]])
     }
 
     fn bytes(self) -> [u8; 2] {
@@ -71,10 +73,10 @@ impl Number for u32 {
     ghost value = { λ n. n };
 
     fn read(s: &[u8]) -> u32 {
-        let Some(front) = s.first_chunk() else {
+        let Some(front) = s.first_chunk::<4>() else {
             return short(s) as u32;
         };
-        u32::from_be_bytes(*front)
+        u32::from_be_bytes([front[0], front[1], front[2], front[3]])
     }
 
     fn bytes(self) -> [u8; 4] {
@@ -90,10 +92,12 @@ impl Number for u64 {
     ghost value = { λ n. n };
 
     fn read(s: &[u8]) -> u64 {
-        let Some(front) = s.first_chunk() else {
+        let Some(front) = s.first_chunk::<8>() else {
             return short(s);
         };
-        u64::from_be_bytes(*front)
+        u64::from_be_bytes([
+            front[0], front[1], front[2], front[3], front[4], front[5], front[6], front[7],
+        ])
     }
 
     fn bytes(self) -> [u8; 8] {

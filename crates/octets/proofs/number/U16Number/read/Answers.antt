@@ -1,6 +1,6 @@
-use Rattle.std.proofs.Common.{◌∙◌}
+use Rattle.std.proofs.Common.{arith}
 use Rattle.octets.proofs.Numbers.{front16}
 use Rattle.octets.proofs.number.U16Number.read.Goals as goal
 
 pub returns : goal.returns
-returns c = c.from_be_bytes.ensures ∙ front16 c.args.s.now c.in-Some.front.now c.in-Some.ensures.cases
+returns c = omega (arith, c.from_be_bytes.ensures, front16 c.args.s.now c.in-Some.front.now c.in-Some.ensures.cases)

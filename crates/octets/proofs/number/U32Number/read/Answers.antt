@@ -1,4 +1,4 @@
-use Rattle.std.proofs.Common.{arith, length, ◌<◌, ◌∙◌, rules}
+use Rattle.std.proofs.Common.{arith, length, ◌<◌, rules}
 use Rattle.octets.proofs.Numbers.{front32, room_mono}
 use Rattle.octets.proofs.number.U32Number.read.Goals as goal
 
@@ -8,4 +8,4 @@ overflow_cast-result c =
     omega (arith, c.short.ensures.fits, room_mono (length c.args.s.now) 3 (omega arith))
 
 pub returns : goal.returns
-returns c = c.from_be_bytes.ensures ∙ front32 c.args.s.now c.in-Some.front.now c.in-Some.ensures.cases
+returns c = omega (arith, c.from_be_bytes.ensures, front32 c.args.s.now c.in-Some.front.now c.in-Some.ensures.cases)
