@@ -1,7 +1,7 @@
 // What a line does. `clear` makes all bytes zeros; `put`, a place and bytes writes the bytes there. `ledger` or `table`, a length and a name say
 // the verdict of check 1 or 3 on as many bytes; up to two places with their bytes behind the name spoil a copy of them first.
 use super::bytes::lay;
-use super::words::{number, words};
+use super::words::{behind, number, word};
 use clients::table::Table;
 use ledger::sound::Soundness;
 use std::io;
@@ -21,13 +21,13 @@ fn say(rt: &impl Print, name: &[u8], sound: bool) -> io::Result<()> {
 // The verdict on the first bytes of a copy of space: their length, a name, and up to two places that are spoiled.
 fn judge<F: FnOnce(&[u8]) -> bool>(
     rt: &impl Print,
-    asked: [&[u8]; 7],
+    asked: [&[u8]; 6],
     space: &[u8; SPACE],
     is_sound: F,
 ) -> io::Result<()>
     requires { F.IsAlwaysCallable is_sound }
 {
-    let [_, length, name, a, xs, b, ys] = asked;
+    let [length, name, a, xs, b, ys] = asked;
     let mut copy = *space;
     lay(&mut copy, number(a), xs);
     lay(&mut copy, number(b), ys);
@@ -35,15 +35,15 @@ fn judge<F: FnOnce(&[u8]) -> bool>(
     say(rt, name, is_sound(&copy[..n]))
 }
 
+// By its first word, so that a line that asks for nothing is read no further.
 pub fn turn(rt: &impl Print, line: &[u8], space: &mut [u8; SPACE]) -> io::Result<()> {
-    let asked = words(line);
-    match asked {
-        [b"clear", ..] => space.fill(0),
-        [b"put", place, bytes, ..] => lay(space, number(place), bytes),
-        [b"ledger", ..] => judge(rt, asked, space, |l| {
+    match word(line, 0) {
+        b"clear" => space.fill(0),
+        b"put" => lay(space, number(word(line, 1)), word(line, 2)),
+        b"ledger" => judge(rt, behind(line), space, |l| {
             matches!(soundness::check(l), Soundness::Sound)
         })?,
-        [b"table", ..] => judge(rt, asked, space, |t| {
+        b"table" => judge(rt, behind(line), space, |t| {
             matches!(clients::table::check(t), Table::Sound)
         })?,
         _ => {}
